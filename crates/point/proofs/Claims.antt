@@ -1,0 +1,82 @@
+-- What follows of the contracts, for their readers and their callers. Assumes nothing.
+use Prim.Native.Nat.{ℕ, zero, suc, _≤_, _%_, zero-le}
+use mathlib.Core.Bool.{Bool, true, false, not, _&&_, _||_}
+use mathlib.Core.List.{List, [], _∷_}
+use mathlib.Core.Path.{_≡_, refl, sym, ap, subst, _∙_}
+use native.Mathlib.Omega.{arith}
+use lib.Dec.{T, eqb, leb, leb→le}
+use lib.IntN.{ℤ, pos, negsuc, natAbs}
+use lib.ListN.{length, getD}
+use lib.Ieee.Fits.{and-l, and-r}
+use borrow.Author.Tests.{eqb-true}
+use denote.Ref.{now}
+use Rattle.point.specs.Refusals.{refusalNumber, numberOf, countOf}
+use Rattle.point.specs.Limits.{every, inRange, inRangeF64, badList, badPoints, badPointsF64, badTolerance, badSqTolerance, tooMany}
+use Rattle.point.proofs.Refusal.number.Reads.{Post as Refusal-number}
+use Rattle.point.proofs.Answer.number.Reads.{Post as Answer-number}
+use Rattle.point.proofs.Answer.count.Reads.{Post as Answer-count}
+use Rattle.point.proofs.limits.too_many.Reads.{Post as Too-many}
+use Rattle.point.proofs.limits.bad_points.Reads.{Post as Bad-points}
+use Rattle.point.proofs.limits.bad_points_f64.Reads.{Post as Bad-points-f64}
+use Rattle.point.proofs.limits.bad_tolerance.Reads.{Post as Bad-tolerance}
+use Rattle.point.proofs.limits.bad_sq_tolerance.Reads.{Post as Bad-sq-tolerance}
+
+-- ---- each contract leaves no choice: of equal arguments it allows one result. `Post` is the contract itself, as Rattle reads it off the source.
+
+pub refusal-number-determined : (κs : _) (a a′ : _) (r r′ : _) (s s′ : _) → Refusal-number κs a r s → Refusal-number κs a′ r′ s′ → a .0 ≡ a′ .0 → r ≡ r′
+refusal-number-determined κs a a′ r r′ s s′ p q e = p ∙ ap refusalNumber e ∙ sym q
+
+pub answer-number-determined : (κs : _) (a a′ : _) (r r′ : _) (s s′ : _) → Answer-number κs a r s → Answer-number κs a′ r′ s′ → a .0 ≡ a′ .0 → r ≡ r′
+answer-number-determined κs a a′ r r′ s s′ p q e = p ∙ ap numberOf e ∙ sym q
+
+pub answer-count-determined : (κs : _) (a a′ : _) (r r′ : _) (s s′ : _) → Answer-count κs a r s → Answer-count κs a′ r′ s′ → a .0 ≡ a′ .0 → r ≡ r′
+answer-count-determined κs a a′ r r′ s s′ p q e = p ∙ ap countOf e ∙ sym q
+
+pub too-many-determined : (κs : _) (a a′ : _) (r r′ : _) (s s′ : _) → Too-many κs a r s → Too-many κs a′ r′ s′ → a .0 ≡ a′ .0 → r ≡ r′
+too-many-determined κs a a′ r r′ s s′ p q e = p ∙ ap tooMany e ∙ sym q
+
+pub bad-points-determined : (κs : _) (a a′ : _) (r r′ : _) (s s′ : _) → Bad-points κs a r s → Bad-points κs a′ r′ s′ → now (a .0) ≡ now (a′ .0) → r ≡ r′
+bad-points-determined κs a a′ r r′ s s′ p q e = p ∙ ap badPoints e ∙ sym q
+
+pub bad-points-f64-determined : (κs : _) (a a′ : _) (r r′ : _) (s s′ : _) → Bad-points-f64 κs a r s → Bad-points-f64 κs a′ r′ s′ → now (a .0) ≡ now (a′ .0) → r ≡ r′
+bad-points-f64-determined κs a a′ r r′ s s′ p q e = p ∙ ap badPointsF64 e ∙ sym q
+
+pub bad-tolerance-determined : (κs : _) (a a′ : _) (r r′ : _) (s s′ : _) → Bad-tolerance κs a r s → Bad-tolerance κs a′ r′ s′ → a .0 ≡ a′ .0 → r ≡ r′
+bad-tolerance-determined κs a a′ r r′ s s′ p q e = p ∙ ap badTolerance e ∙ sym q
+
+pub bad-sq-tolerance-determined : (κs : _) (a a′ : _) (r r′ : _) (s s′ : _) → Bad-sq-tolerance κs a r s → Bad-sq-tolerance κs a′ r′ s′ → a .0 ≡ a′ .0 → r ≡ r′
+bad-sq-tolerance-determined κs a a′ r r′ s s′ p q e = p ∙ ap badSqTolerance e ∙ sym q
+
+-- ---- what a list that is not refused is
+
+neither : (a b : Bool) → (not a || not b) ≡ false → (a ≡ true) × (b ≡ true)
+neither true true e = (refl, refl)
+neither true false e = (refl, sym e)
+neither false b e = (sym e, absurd (subst T e tt))
+
+module _ {A : Type 0} (fine : A → Bool) (xs : List A) (good : badList fine xs ≡ false) where
+  -- It has whole points.
+  pub whole-points : length xs % 2 ≡ 0
+  unfolding badList
+  whole-points = eqb-true (length xs % 2) 0 (neither (eqb (length xs % 2) 0) (every fine xs) good .0)
+
+  -- Each of its values passes the test.
+  pub all-fine : every fine xs ≡ true
+  unfolding badList
+  all-fine = neither (eqb (length xs % 2) 0) (every fine xs) good .1
+
+-- A test of every value holds of the value at each place; past the end stands a value of one's own, of which it holds too.
+pub every-at : {A : Type 0} (fine : A → Bool) (xs : List A) (d : A) → T (every fine xs) → T (fine d) → (k : ℕ) → T (fine (getD xs k d))
+unfolding every
+every-at fine [] d t f k = f
+every-at fine (x ∷ xs) d t f zero = and-l (fine x) (every fine xs) t
+every-at fine (x ∷ xs) d t f (suc k) = every-at fine xs d (and-r (fine x) (every fine xs) t) f k
+
+in-range-abs : (v : ℤ) → T (inRange v) → natAbs v ≤ 16383
+in-range-abs (pos n) t = leb→le n 16383 t
+in-range-abs (negsuc n) t = omega (arith, leb→le n 16382 (and-l (leb n 16382) true t))
+
+-- Each coordinate lies within 16,383 of zero, so that sums, differences and products of a few of them fit.
+pub coordinates-fit : (xs : List ℤ) → badPoints xs ≡ false → (k : ℕ) → natAbs (getD xs k (pos 0)) ≤ 16383
+coordinates-fit xs good k =
+    in-range-abs (getD xs k (pos 0)) (every-at inRange xs (pos 0) (subst T (sym (all-fine inRange xs good)) tt) tt k)

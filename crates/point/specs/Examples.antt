@@ -1,0 +1,58 @@
+-- Worked examples: antt computes each, so `refl` proves it.
+use mathlib.Core.Bool.{true, false}
+use mathlib.Core.List.{[], _∷_}
+use mathlib.Core.Option.{some, none}
+use mathlib.Core.Path.{_≡_, refl}
+use lib.IntN.{pos, negsuc}
+use lib.Ieee.{binary64, nan, inf, fin, ofInt, ofBits, le}
+use Rattle.point.specs.Refusals.{refuse_when_or_, numberOf, countOf}
+use Rattle.point.specs.Limits.{badList, badPoints, badPointsF64, badTolerance, badSqTolerance}
+use Rattle.point.specs.declared.Answer.the-variants.{Done, Refused}
+use Rattle.point.specs.declared.Refusal.the-variants.{TooMany, BadPoint, NoRoom, BadFrame}
+
+farthest : badPoints (pos 16383 ∷ negsuc 16382 ∷ []) ≡ false
+unfolding badList
+farthest = refl
+
+too-far : badPoints (pos 0 ∷ pos 16384 ∷ []) ≡ true
+unfolding badList
+too-far = refl
+
+half-a-point : badPoints (pos 0 ∷ []) ≡ true
+unfolding badList
+half-a-point = refl
+
+-- half, and a NaN beside it
+half : badPointsF64 (fin false 1 (negsuc 0) ∷ fin true 1 (negsuc 0) ∷ []) ≡ false
+unfolding badList ofInt le
+half = refl
+
+not-a-number : badPointsF64 (fin false 1 (negsuc 0) ∷ nan ∷ []) ≡ true
+unfolding badList ofInt le
+not-a-number = refl
+
+minus-zero-is-zero : badTolerance (ofBits binary64 0x8000000000000000) ≡ false
+unfolding ofBits ofInt le
+minus-zero-is-zero = refl
+
+no-tolerance : badTolerance nan ≡ true
+unfolding ofInt le
+no-tolerance = refl
+
+widest : badSqTolerance (ofBits binary64 0x41f0000000000000) ≡ false
+unfolding ofBits ofInt le
+widest = refl
+
+past-the-widest : badSqTolerance (ofBits binary64 0x41f0000000000001) ≡ true
+unfolding ofBits ofInt le
+past-the-widest = refl
+
+-- two apply: the first of the list is given
+lowest : refuse TooMany when false or refuse BadPoint when true or refuse NoRoom when true or none ≡ some BadPoint
+lowest = refl
+
+no-frame-is-11 : numberOf (Refused BadFrame) ≡ 11
+no-frame-is-11 = refl
+
+refused-counts-none : countOf (Refused NoRoom) ≡ 0
+refused-counts-none = refl

@@ -1,0 +1,90 @@
+// The tests that every call makes of what it is handed.
+ghost use mathlib.Core.Path.{_≡_};
+ghost use Rattle.point.specs.Limits.{tooMany, inRange, within, inRangeF64, badPoints, badPointsF64, badTolerance, badSqTolerance};
+
+// A list of points is at most 4,096 points long: x, y, x, y.
+pub const MOST_VALUES: usize = 8192;
+
+// How far from zero a coordinate may lie. The square of a distance then fits an i32.
+pub const FARTHEST: i32 = 16383;
+
+const FARTHEST_F64: f64 = 16383.0;
+
+// The widest tolerance, and its square.
+const WIDEST: f64 = 65536.0;
+
+const WIDEST_SQ: f64 = 4294967296.0;
+
+// Whether a list of so many values is too long.
+pub fn too_many(values: usize) -> bool
+    ensures { λ r. ⌜ r ≡ tooMany values ⌝ }
+{
+    MOST_VALUES < values
+}
+
+// Whether a list has half a point, or a coordinate out of range.
+pub fn bad_points(points: &[i32]) -> bool
+    ensures { λ r. ⌜ r ≡ badPoints (now (points .entry)) ⌝ }
+{
+    if points.len() % 2 != 0 {
+        return true;
+    }
+    let mut i = 0;
+    while i < points.len() {
+        if !in_range(points[i]) {
+            return true;
+        }
+        i += 1;
+    }
+    false
+}
+
+// The same of a list of points with fractions. A NaN and an infinity are out of range.
+pub fn bad_points_f64(points: &[f64]) -> bool
+    ensures { λ r. ⌜ r ≡ badPointsF64 (now (points .entry)) ⌝ }
+{
+    if points.len() % 2 != 0 {
+        return true;
+    }
+    let mut i = 0;
+    while i < points.len() {
+        if !in_range_f64(points[i]) {
+            return true;
+        }
+        i += 1;
+    }
+    false
+}
+
+// Whether a tolerance is NaN or out of range.
+pub fn bad_tolerance(tolerance: f64) -> bool
+    ensures { λ r. ⌜ r ≡ badTolerance tolerance ⌝ }
+{
+    !within(0.0, tolerance, WIDEST)
+}
+
+// Whether a squared tolerance is NaN or out of range.
+pub fn bad_sq_tolerance(tolerance: f64) -> bool
+    ensures { λ r. ⌜ r ≡ badSqTolerance tolerance ⌝ }
+{
+    !within(0.0, tolerance, WIDEST_SQ)
+}
+
+fn in_range(value: i32) -> bool
+    ensures { λ r. ⌜ r ≡ inRange value ⌝ }
+{
+    -FARTHEST <= value && value <= FARTHEST
+}
+
+fn in_range_f64(value: f64) -> bool
+    ensures { λ r. ⌜ r ≡ inRangeF64 value ⌝ }
+{
+    within(-FARTHEST_F64, value, FARTHEST_F64)
+}
+
+// From `low` to `high`, both counted in. Of a NaN it is false.
+fn within(low: f64, value: f64, high: f64) -> bool
+    ensures { λ r. ⌜ r ≡ within low value high ⌝ }
+{
+    low <= value && value <= high
+}
