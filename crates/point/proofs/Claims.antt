@@ -16,6 +16,8 @@ use Rattle.point.proofs.Refusal.number.Reads.{Post as Refusal-number}
 use Rattle.point.proofs.Answer.number.Reads.{Post as Answer-number}
 use Rattle.point.proofs.Answer.count.Reads.{Post as Answer-count}
 use Rattle.point.proofs.limits.too_many.Reads.{Post as Too-many}
+use Rattle.point.proofs.limits.in_range.Reads.{Post as In-range}
+use Rattle.point.proofs.limits.in_range_f64.Reads.{Post as In-range-f64}
 use Rattle.point.proofs.limits.bad_points.Reads.{Post as Bad-points}
 use Rattle.point.proofs.limits.bad_points_f64.Reads.{Post as Bad-points-f64}
 use Rattle.point.proofs.limits.bad_tolerance.Reads.{Post as Bad-tolerance}
@@ -34,6 +36,12 @@ answer-count-determined κs a a′ r r′ s s′ p q e = p ∙ ap countOf e ∙ 
 
 pub too-many-determined : (κs : _) (a a′ : _) (r r′ : _) (s s′ : _) → Too-many κs a r s → Too-many κs a′ r′ s′ → a .0 ≡ a′ .0 → r ≡ r′
 too-many-determined κs a a′ r r′ s s′ p q e = p ∙ ap tooMany e ∙ sym q
+
+pub in-range-determined : (κs : _) (a a′ : _) (r r′ : _) (s s′ : _) → In-range κs a r s → In-range κs a′ r′ s′ → a .0 ≡ a′ .0 → r ≡ r′
+in-range-determined κs a a′ r r′ s s′ p q e = p ∙ ap inRange e ∙ sym q
+
+pub in-range-f64-determined : (κs : _) (a a′ : _) (r r′ : _) (s s′ : _) → In-range-f64 κs a r s → In-range-f64 κs a′ r′ s′ → a .0 ≡ a′ .0 → r ≡ r′
+in-range-f64-determined κs a a′ r r′ s s′ p q e = p ∙ ap inRangeF64 e ∙ sym q
 
 pub bad-points-determined : (κs : _) (a a′ : _) (r r′ : _) (s s′ : _) → Bad-points κs a r s → Bad-points κs a′ r′ s′ → now (a .0) ≡ now (a′ .0) → r ≡ r′
 bad-points-determined κs a a′ r r′ s s′ p q e = p ∙ ap badPoints e ∙ sym q
@@ -72,7 +80,8 @@ every-at fine [] d t f k = f
 every-at fine (x ∷ xs) d t f zero = and-l (fine x) (every fine xs) t
 every-at fine (x ∷ xs) d t f (suc k) = every-at fine xs d (and-r (fine x) (every fine xs) t) f k
 
-in-range-abs : (v : ℤ) → T (inRange v) → natAbs v ≤ 16383
+-- A coordinate that is in range lies within 16,383 of zero.
+pub in-range-abs : (v : ℤ) → T (inRange v) → natAbs v ≤ 16383
 in-range-abs (pos n) t = leb→le n 16383 t
 in-range-abs (negsuc n) t = omega (arith, leb→le n 16382 (and-l (leb n 16382) true t))
 

@@ -2,3 +2,4 @@
 pub mod Refusals
 pub mod Limits
 pub mod Examples
+pub mod Points

@@ -10,6 +10,8 @@ pub use limits::bad_points;
 pub use limits::bad_points_f64;
 pub use limits::bad_sq_tolerance;
 pub use limits::bad_tolerance;
+pub use limits::in_range;
+pub use limits::in_range_f64;
 pub use limits::too_many;
 
 // A point of a chart or an outline, in pixels, y down.

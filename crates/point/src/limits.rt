@@ -39,7 +39,7 @@ pub fn bad_points(points: &[i32]) -> bool
     false
 }
 
-// The same of a list of points with fractions. A NaN and an infinity are out of range.
+// The same of a list of points with fractions.
 pub fn bad_points_f64(points: &[f64]) -> bool
     ensures { λ r. ⌜ r ≡ badPointsF64 (now (points .entry)) ⌝ }
 {
@@ -70,13 +70,15 @@ pub fn bad_sq_tolerance(tolerance: f64) -> bool
     !within(0.0, tolerance, WIDEST_SQ)
 }
 
-fn in_range(value: i32) -> bool
+// Whether a coordinate is in range.
+pub fn in_range(value: i32) -> bool
     ensures { λ r. ⌜ r ≡ inRange value ⌝ }
 {
     -FARTHEST <= value && value <= FARTHEST
 }
 
-fn in_range_f64(value: f64) -> bool
+// The same of a coordinate with a fraction. A NaN and an infinity are out of range.
+pub fn in_range_f64(value: f64) -> bool
     ensures { λ r. ⌜ r ≡ inRangeF64 value ⌝ }
 {
     within(-FARTHEST_F64, value, FARTHEST_F64)
