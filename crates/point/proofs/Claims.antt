@@ -1,15 +1,15 @@
 -- What follows of the contracts, for their readers and their callers. Assumes nothing.
-use Prim.Native.Nat.{ℕ, zero, suc, _≤_, _%_, zero-le}
-use mathlib.Core.Bool.{Bool, true, false, not, _&&_, _||_}
+use Prim.Native.Nat.{ℕ, zero, suc, _≤_, _%_}
+use mathlib.Core.Bool.{Bool, true, false, not, _||_}
 use mathlib.Core.List.{List, [], _∷_}
-use mathlib.Core.Path.{_≡_, refl, sym, ap, subst, _∙_}
-use native.Mathlib.Omega.{arith}
-use lib.Dec.{T, eqb, leb, leb→le}
-use lib.IntN.{ℤ, pos, negsuc, natAbs}
+use mathlib.Core.Path.{_≡_, refl, sym, ap, _∙_}
+use lib.Dec.{eqb}
+use lib.IntN.{ℤ, pos, natAbs}
 use lib.ListN.{length, getD}
-use lib.Ieee.Fits.{and-l, and-r}
-use borrow.Author.Tests.{eqb-true}
+use borrow.Author.Tests.{eqb-true, not-false}
 use denote.Ref.{now}
+use Rattle.laws.specs.Integers.{range-true}
+use Rattle.laws.specs.Joined.{both-true, both-false}
 use Rattle.point.specs.Refusals.{refusalNumber, numberOf, countOf}
 use Rattle.point.specs.Limits.{every, inRange, inRangeF64, badList, badPoints, badPointsF64, badTolerance, badSqTolerance, tooMany}
 use Rattle.point.proofs.Refusal.number.Reads.{Post as Refusal-number}
@@ -58,9 +58,7 @@ bad-sq-tolerance-determined κs a a′ r r′ s s′ p q e = p ∙ ap badSqToler
 -- ---- what a list that is not refused is
 
 neither : (a b : Bool) → (not a || not b) ≡ false → (a ≡ true) × (b ≡ true)
-neither true true e = (refl, refl)
-neither true false e = (refl, sym e)
-neither false b e = (sym e, absurd (subst T e tt))
+neither a b e = let f = both-false (not a) (not b) e in (not-false a (f .0), not-false b (f .1))
 
 module _ {A : Type 0} (fine : A → Bool) (xs : List A) (good : badList fine xs ≡ false) where
   -- It has whole points.
@@ -74,18 +72,17 @@ module _ {A : Type 0} (fine : A → Bool) (xs : List A) (good : badList fine xs 
   all-fine = neither (eqb (length xs % 2) 0) (every fine xs) good .1
 
 -- A test of every value holds of the value at each place; past the end stands a value of one's own, of which it holds too.
-pub every-at : {A : Type 0} (fine : A → Bool) (xs : List A) (d : A) → T (every fine xs) → T (fine d) → (k : ℕ) → T (fine (getD xs k d))
+pub every-at : {A : Type 0} (fine : A → Bool) (xs : List A) (d : A) → every fine xs ≡ true → fine d ≡ true → (k : ℕ) → fine (getD xs k d) ≡ true
 unfolding every
-every-at fine [] d t f k = f
-every-at fine (x ∷ xs) d t f zero = and-l (fine x) (every fine xs) t
-every-at fine (x ∷ xs) d t f (suc k) = every-at fine xs d (and-r (fine x) (every fine xs) t) f k
+every-at fine [] d e f k = f
+every-at fine (x ∷ xs) d e f zero = both-true (fine x) (every fine xs) e .0
+every-at fine (x ∷ xs) d e f (suc k) = every-at fine xs d (both-true (fine x) (every fine xs) e .1) f k
 
 -- A coordinate that is in range lies within 16,383 of zero.
-pub in-range-abs : (v : ℤ) → T (inRange v) → natAbs v ≤ 16383
-in-range-abs (pos n) t = leb→le n 16383 t
-in-range-abs (negsuc n) t = omega (arith, leb→le n 16382 (and-l (leb n 16382) true t))
+pub in-range-abs : (v : ℤ) → inRange v ≡ true → natAbs v ≤ 16383
+in-range-abs v e = range-true 16382 16383 refl v e
 
 -- Each coordinate lies within 16,383 of zero, so that sums, differences and products of a few of them fit.
 pub coordinates-fit : (xs : List ℤ) → badPoints xs ≡ false → (k : ℕ) → natAbs (getD xs k (pos 0)) ≤ 16383
 coordinates-fit xs good k =
-    in-range-abs (getD xs k (pos 0)) (every-at inRange xs (pos 0) (subst T (sym (all-fine inRange xs good)) tt) tt k)
+    in-range-abs (getD xs k (pos 0)) (every-at inRange xs (pos 0) (all-fine inRange xs good) refl k)

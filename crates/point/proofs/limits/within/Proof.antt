@@ -1,10 +1,10 @@
 -- `point::within` meets its contract: its two tests, joined. Assumes nothing.
 use borrow.Author.Needs.{needs}
-use Rattle.point.proofs.Both.{first, second}
+use Rattle.laws.specs.Joined.{and-itself, and-second}
 use Rattle.point.proofs.limits.within.Statement.{statement}
 use Rattle.point.proofs.limits.within.Tie as tie
 
-ruleset laws = (first, second, needs)
+ruleset laws = (and-itself, and-second, needs)
 
 pub within-spec : {M : Type 1} → statement M
 within-spec =

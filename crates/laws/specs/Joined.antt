@@ -1,0 +1,33 @@
+-- Two tests joined by `&&` or `||`, as code makes them, one after the other: what is known of both, and what is returned when the first
+-- decides. Assumes nothing.
+use mathlib.Core.Path.{_≡_, refl, sym}
+use mathlib.Core.Bool.{Bool, true, false, _&&_, _||_, false≢true}
+
+pub both-true : (a b : Bool) → (a && b) ≡ true → (a ≡ true) × (b ≡ true)
+both-true true b h = (refl, h)
+both-true false b h = absurd (false≢true h)
+
+pub both-false : (a b : Bool) → (a || b) ≡ false → (a ≡ false) × (b ≡ false)
+both-false true b h = absurd (false≢true (sym h))
+both-false false b h = (refl, h)
+
+-- the first decides
+pub and-first : (a b : Bool) → a ≡ false → false ≡ (a && b)
+and-first a b h = cc
+
+pub or-first : (a b : Bool) → a ≡ true → true ≡ (a || b)
+or-first a b h = cc
+
+-- the first decides, and is itself what is returned
+pub and-itself : (a b : Bool) → a ≡ false → a ≡ (a && b)
+and-itself a b h = cc
+
+pub or-itself : (a b : Bool) → a ≡ true → a ≡ (a || b)
+or-itself a b h = cc
+
+-- and where it does not, the second
+pub and-second : (a b : Bool) → a ≡ true → b ≡ (a && b)
+and-second a b h = cc
+
+pub or-second : (a b : Bool) → a ≡ false → b ≡ (a || b)
+or-second a b h = cc
