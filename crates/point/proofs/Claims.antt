@@ -11,13 +11,14 @@ use denote.Ref.{now}
 use Rattle.laws.specs.Integers.{range-true}
 use Rattle.laws.specs.Joined.{both-true, both-false}
 use Rattle.point.specs.Refusals.{refusalNumber, numberOf, countOf}
-use Rattle.point.specs.Limits.{every, inRange, inRangeF64, badList, badPoints, badPointsF64, badTolerance, badSqTolerance, tooMany}
+use Rattle.point.specs.Limits.{every, inRange, inRangeF64, badList, badPoints, badPointsF64, badTolerance, badSqTolerance, tooMany, placesFor}
 use Rattle.point.proofs.Refusal.number.Reads.{Post as Refusal-number}
 use Rattle.point.proofs.Answer.number.Reads.{Post as Answer-number}
 use Rattle.point.proofs.Answer.count.Reads.{Post as Answer-count}
 use Rattle.point.proofs.limits.too_many.Reads.{Post as Too-many}
 use Rattle.point.proofs.limits.in_range.Reads.{Post as In-range}
 use Rattle.point.proofs.limits.in_range_f64.Reads.{Post as In-range-f64}
+use Rattle.point.proofs.limits.places_for.Reads.{Post as Places-for}
 use Rattle.point.proofs.limits.bad_points.Reads.{Post as Bad-points}
 use Rattle.point.proofs.limits.bad_points_f64.Reads.{Post as Bad-points-f64}
 use Rattle.point.proofs.limits.bad_tolerance.Reads.{Post as Bad-tolerance}
@@ -42,6 +43,9 @@ in-range-determined κs a a′ r r′ s s′ p q e = p ∙ ap inRange e ∙ sym 
 
 pub in-range-f64-determined : (κs : _) (a a′ : _) (r r′ : _) (s s′ : _) → In-range-f64 κs a r s → In-range-f64 κs a′ r′ s′ → a .0 ≡ a′ .0 → r ≡ r′
 in-range-f64-determined κs a a′ r r′ s s′ p q e = p ∙ ap inRangeF64 e ∙ sym q
+
+pub places-for-determined : (κs : _) (a a′ : _) (r r′ : _) (s s′ : _) → Places-for κs a r s → Places-for κs a′ r′ s′ → a .0 ≡ a′ .0 → r ≡ r′
+places-for-determined κs a a′ r r′ s s′ p q e = p ∙ ap placesFor e ∙ sym q
 
 pub bad-points-determined : (κs : _) (a a′ : _) (r r′ : _) (s s′ : _) → Bad-points κs a r s → Bad-points κs a′ r′ s′ → now (a .0) ≡ now (a′ .0) → r ≡ r′
 bad-points-determined κs a a′ r r′ s s′ p q e = p ∙ ap badPoints e ∙ sym q

@@ -7,6 +7,7 @@ use lib.IntN.{ℤ, pos, negsuc}
 use lib.Signed.{leZ}
 use lib.ListN.{length}
 use lib.Ieee.{Float, binary64, ofInt, le}
+use Rattle.point.specs.Refusals.{if_then_else_}
 
 -- a test holds of every value of a list
 unfoldable pub every : {A : Type 0} → (A → Bool) → List A → Bool
@@ -46,3 +47,7 @@ badTolerance t = not (within (ofInt binary64 (pos 0)) t (ofInt binary64 (pos 655
 
 abbrev pub badSqTolerance : Float → Bool
 badSqTolerance t = not (within (ofInt binary64 (pos 0)) t (ofInt binary64 (pos 4294967296)))
+
+-- "Room is judged on n alone: n places, 2 where n is 1"
+abbrev pub placesFor : ℕ → ℕ
+placesFor n = if eqb n 1 then 2 else n

@@ -12,6 +12,7 @@ pub use limits::bad_sq_tolerance;
 pub use limits::bad_tolerance;
 pub use limits::in_range;
 pub use limits::in_range_f64;
+pub use limits::places_for;
 pub use limits::too_many;
 
 // A point of a chart or an outline, in pixels, y down.

@@ -1,6 +1,6 @@
 // The tests that every call makes of what it is handed.
 ghost use mathlib.Core.Path.{_≡_};
-ghost use Rattle.point.specs.Limits.{tooMany, inRange, within, inRangeF64, badPoints, badPointsF64, badTolerance, badSqTolerance};
+ghost use Rattle.point.specs.Limits.{tooMany, inRange, within, inRangeF64, badPoints, badPointsF64, badTolerance, badSqTolerance, placesFor};
 
 // A list of points is at most 4,096 points long: x, y, x, y.
 pub const MOST_VALUES: usize = 8192;
@@ -68,6 +68,14 @@ pub fn bad_sq_tolerance(tolerance: f64) -> bool
     ensures { λ r. ⌜ r ≡ badSqTolerance tolerance ⌝ }
 {
     !within(0.0, tolerance, WIDEST_SQ)
+}
+
+// How many places a list of so many points asks of the buffer for its answer. One point may be
+// answered twice.
+pub fn places_for(points: usize) -> usize
+    ensures { λ r. ⌜ r ≡ placesFor points ⌝ }
+{
+    if points == 1 { 2 } else { points }
 }
 
 // Whether a coordinate is in range.
