@@ -1,0 +1,162 @@
+//! Document 01's worked examples ("Both sides of each edge"), asked of the oracle.
+
+use crate::Subject;
+use visioncortex::open_util::{find_intersection, find_mid_point, norm_f64, norm_i32, signed_area};
+use visioncortex::{
+    evaluate_penalty, PathF64, PathI32, PathSimplify, PointF64, PointI32, SubdivideSmooth,
+};
+
+fn says(name: &str, case: &str, answer: &str) {
+    let mut text = Vec::new();
+    Subject::named(name).expect("a name").answer_line(case.as_bytes(), &mut text);
+    assert_eq!(String::from_utf8(text).expect("a line of text"), answer, "{case}");
+}
+
+fn path(points: &[(i32, i32)]) -> PathI32 {
+    PathI32::from_points(points.iter().map(|&(x, y)| PointI32::new(x, y)).collect())
+}
+
+fn points(path: &PathI32) -> Vec<(i32, i32)> {
+    path.iter().map(|point| (point.x, point.y)).collect()
+}
+
+const PIXEL: [(i32, i32); 5] = [(0, 0), (1, 0), (1, 1), (0, 1), (0, 0)];
+const SQUARE: [(i32, i32); 5] = [(0, 0), (4, 0), (4, 4), (0, 4), (0, 0)];
+
+/// A place behind the answer.
+const OLD: &str = ",-99999";
+
+#[test]
+fn p1_one_set_pixel() {
+    says("walker", "walk 1 1 1 80 0 0 10", "0 5 0,0,1,0,1,1,0,1,0,0");
+    says("walker", "walk 1 1 1 80 0 0 9", &format!("10 0 {}-99999", "-99999,".repeat(8)));
+}
+
+#[test]
+fn p2_start_without_exit() {
+    says("walker", "walk 1 1 1 80 5 5 2", "8 0 -99999,-99999");
+}
+
+#[test]
+fn start_in_the_middle_of_an_edge_is_stuck() {
+    says("walker", "walk 1 2 1 c0 1 0 0", "9 0 -");
+    says("walker", "walk 0 2 1 c0 1 0 0", "9 0 -");
+}
+
+#[test]
+fn one_edge_is_walked_twice() {
+    says("walker", "walk 1 2 2 8040 0 0 16", "0 8 0,0,1,0,1,1,2,1,2,2,1,2,1,0,0,0");
+}
+
+#[test]
+fn p3_staircase() {
+    let removed = PathSimplify::remove_staircase(&path(&PIXEL), false);
+    assert_eq!(points(&removed), [(0, 0), (0, 0)]);
+    assert_eq!(points(&path(&PIXEL).simplify(true)), [(0, 0), (0, 0)]);
+    assert_eq!(points(&path(&SQUARE).simplify(true)), SQUARE);
+}
+
+#[test]
+fn p4_p5_p6_penalties() {
+    let limited = |of: &[(i32, i32)]| points(&PathSimplify::limit_penalties(&path(of)));
+    assert_eq!(limited(&[(7, 7)]), [(7, 7), (7, 7)]);
+    assert_eq!(limited(&[(1, 2), (3, 4)]), [(1, 2)]);
+    assert_eq!(limited(&[(0, 0), (100, 0), (0, 0)]), [(0, 0), (0, 0)]);
+    let (a, b) = (PointI32::new(0, 0), PointI32::new(100, 0));
+    assert!(evaluate_penalty(a, b, a).is_nan());
+}
+
+#[test]
+fn p7_p8_radial() {
+    says("reduce", "radial 4039000000000000 0,0,3,4,6,8 6", "0 2 0,0,6,8,-99999,-99999");
+    says("reduce", "radial 4038000000000000 0,0,3,4,6,8 6", "0 3 0,0,3,4,6,8");
+}
+
+#[test]
+fn p9_p10_numbers() {
+    let infinity = "7ff0000000000000";
+    let sixteen = "4030000000000000";
+    let numbers = [infinity, sixteen, sixteen, infinity].join(",");
+    says("reduce", "numbers 0,0,8,2,0,4,8,0 4", &format!("0 4 {numbers}"));
+    let old = OLD.repeat(4);
+    let at = |tolerance: &str| format!("douglas_peucker {tolerance} 0,0,8,2,0,4,8,0 8 4");
+    says("reduce", &at(sixteen), &format!("0 2 0,0,8,0{old} 01000001"));
+    says("reduce", &at("402e000000000000"), "0 4 0,0,8,2,0,4,8,0 01010101");
+    let zoom = |tolerance: &str| format!("zoom {tolerance} 0,0,8,2,0,4,8,0 {numbers} 8");
+    says("reduce", &zoom(sixteen), &format!("0 2 0,0,8,0{old}"));
+    says("reduce", &zoom("402e000000000000"), "0 4 0,0,8,2,0,4,8,0");
+}
+
+#[test]
+fn p11_reduce() {
+    let out = ["0,0,0,0", &OLD.repeat(6)].concat();
+    let scratch = ["0,0", &OLD.repeat(8)].concat();
+    let case = "reduce 4008000000000000 0,0,1,0,1,1,0,1,0,0 10 10 5";
+    says("reduce", case, &format!("0 2 {out} {scratch} 01eeeeeeee"));
+    says("reduce", "douglas_peucker 4008000000000000 7,7 4 1", "0 2 7,7,7,7 01");
+}
+
+#[test]
+fn p12_spiral() {
+    says("walker", "spiral 2", "0 0 0 0 1 0 1 0 4 0");
+    says("walker", "spiral_step 0 0 0 1 0 1 0 4 0", "0 0 0 1 0 1 0 1 1 0 4 1");
+    says("walker", "spiral_step 1 0 1 0 1 1 0 4 1", "0 1 0 1 1 2 -1 0 2 0 4 2");
+    says("walker", "spiral_step 1 1 2 -1 0 2 0 4 2", "0 1 1 0 1 2 -1 0 2 1 4 3");
+    says("walker", "spiral_step 0 1 2 -1 0 2 1 4 3", "0 0 1 -1 1 3 0 -1 2 0 4 4");
+    says("walker", "spiral_step -1 1 3 0 -1 2 0 4 4", "0 none -1 1 3 0 -1 2 0 4 4");
+    says("walker", "spiral 513", "1");
+    says("walker", "spiral_step 0 0 4 1 0 1 0 4 0", "1 0 0 4 1 0 1 0 4 0");
+    // Size 0 gives none, size 1 gives (0,0).
+    says("walker", "spiral 0", "0 -1 -1 0 1 0 1 0 0 0");
+    says("walker", "spiral_step -1 -1 0 1 0 1 0 0 0", "0 none -1 -1 0 1 0 1 0 0 0");
+    says("walker", "spiral_step -1 -1 0 1 0 1 0 1 0", "0 0 0 -1 -1 0 1 0 1 0 1 1");
+}
+
+#[test]
+fn root_of_two() {
+    says("sqrt", "sqrt_bits 4000000000000000", "3ff6a09e667f3bcd");
+    says("sqrt", "sqrt 8000000000000000", "8000000000000000");
+    says("sqrt", "sqrt_bits bff0000000000000", "7ff8000000000000");
+}
+
+#[test]
+fn two_lines_cross() {
+    let at = |x, y| PointF64::new(x, y);
+    let crossing = find_intersection(&at(0., 0.), &at(2., 2.), &at(0., 2.), &at(2., 0.));
+    let (point, ratios) = crossing.expect("a crossing");
+    assert_eq!((point, ratios.mua, ratios.mub), (at(1., 1.), 0.5, 0.5));
+    assert!(ratios.inside() && !ratios.outside() && !ratios.coincide());
+}
+
+#[test]
+fn the_rest_of_util() {
+    let at = PointI32::new;
+    assert_eq!(signed_area(at(0, 0), at(1, 0), at(1, 1)), 1);
+    let (a, b) = (PointF64::new(1., 2.), PointF64::new(2., 5.));
+    assert_eq!(find_mid_point(&a, &b), PointF64::new(1.5, 3.5));
+    assert_eq!((norm_i32(&at(3, 4)), norm_f64(&PointF64::new(3., 4.))), (5., 5.));
+}
+
+#[test]
+fn subdivision_of_a_square() {
+    let square: PathF64 = path(&SQUARE).to_path_f64();
+    let round = |corners: [bool; 4]| {
+        let (path, _, finished) =
+            SubdivideSmooth::subdivide_keep_corners(&square, &corners, 8., 1., true);
+        (path.path, finished)
+    };
+    let (smooth, finished) = round([false; 4]);
+    assert_eq!((smooth.len(), smooth[1], finished), (9, PointF64::new(2., -0.5), false));
+    assert_eq!(round([true, false, false, false]).0[1], PointF64::new(2., -0.25));
+    assert_eq!(round([true; 4]), (square.path.clone(), true));
+}
+
+#[test]
+fn tempting_but_wrong() {
+    // A run does not stop at the start: it is passed in the middle of the row's upper edge.
+    says("walker", "walk 1 3 1 e0 1 0 0", "9 0 -");
+    // The earliest of equal distances is split first: 9 for (1,3), and less for (2,3).
+    let numbers = "7ff0000000000000,4022000000000000,3fe6276276276277,7ff0000000000000";
+    says("reduce", "numbers 0,0,1,3,2,3,3,0 4", &format!("0 4 {numbers}"));
+    // Adding the last of two points: see P5. Letting a NaN win: see P6.
+}
