@@ -1,0 +1,85 @@
+-- `sqrt::root::sqrt_bits` meets its contract: the tests on the way tell what the pattern stands for, and so which root is asked. Assumes nothing.
+use Prim.Native.Nat.{ℕ, suc, _+_, _-_, _*_, _/_, _%_, _^_, _≤_, _<_}
+use mathlib.Core.Bool.{Bool, true, false}
+use mathlib.Core.Path.{_≡_, refl, sym, ap, _∙_}
+use native.Mathlib.Nat.{mul-assoc, mul-pos}
+use native.Mathlib.Omega.{arith}
+use lib.Dec.{ltb}
+use lib.Ieee.{binary64, nan, toBits, ofBits}
+use lib.Pow.{pow-add, pow-pos}
+use borrow.Author.Needs.{needs}
+use borrow.Author.Tests.{ltb-true, ltb-false}
+use Rattle.sqrt.specs.Root.{nearestRoot, rootOf}
+use Rattle.sqrt.proofs.Patterns.{root-of-units, reads-nan, reads-subnormal, reads-normal, no-root-of-negative}
+use Rattle.sqrt.proofs.root.sqrt_bits.Statement.{statement}
+use Rattle.sqrt.proofs.root.sqrt_bits.Tie as tie
+
+-- the pattern of the root of what the pattern b stands for
+abbrev rootBits : ℕ → ℕ
+rootBits b = toBits binary64 (rootOf binary64 (ofBits binary64 b))
+
+module _ (b : ℕ) where
+  -- b is 0 or 2 ^ 63
+  zero-itself : b < 2 ^ 64 → b % 2 ^ 63 ≡ 0 → b ≡ rootBits b
+  unfolding toBits rootOf ofBits
+  zero-itself w z = by-sign (ltb b (2 ^ 63)) (ltb-true _ _) (ltb-false _ _)
+    where
+      by-sign : (s : Bool) → (s ≡ true → b < 2 ^ 63) → (s ≡ false → 2 ^ 63 ≤ b) → b ≡ rootBits b
+      by-sign true less more = let l : b < 2 ^ 63 = less refl in let e : b ≡ 0 = omega arith in rw e
+      by-sign false less more = let l : 2 ^ 63 ≤ b = more refl in let e : b ≡ 2 ^ 63 = omega arith in rw e
+
+  infinity-itself : b ≡ 0x7ff0000000000000 → 0x7ff0000000000000 ≡ rootBits b
+  unfolding toBits rootOf ofBits
+  infinity-itself e = rw e
+
+  -- above +infinity there are NaNs, and then all that has the sign set
+  no-root : b < 2 ^ 64 → (b % 2 ^ 63 ≡ 0 → ⊥) → 0x7ff0000000000000 < b → rootOf binary64 (ofBits binary64 b) ≡ nan
+  unfolding rootOf
+  no-root w z i = by-sign (ltb b (2 ^ 63)) (ltb-true _ _) (ltb-false _ _)
+    where
+      by-sign : (s : Bool) → (s ≡ true → b < 2 ^ 63) → (s ≡ false → 2 ^ 63 ≤ b) → rootOf binary64 (ofBits binary64 b) ≡ nan
+      by-sign true less more = let l : b < 2 ^ 63 = less refl in ap (rootOf binary64) (reads-nan binary64 b (omega arith))
+      by-sign false less more = no-root-of-negative binary64 b (more refl) (λ x t. z (omega arith))
+
+  nan-bits : b < 2 ^ 64 → (b % 2 ^ 63 ≡ 0 → ⊥) → 0x7ff0000000000000 < b → 0x7ff8000000000000 ≡ rootBits b
+  unfolding toBits
+  nan-bits w z i = rw (no-root w z i)
+
+  -- a positive number, from its units: b itself, or its digits with the leading one, as often doubled as its field says
+  subnormal : (r : ℕ) → r ≡ toBits binary64 (nearestRoot binary64 (b % 2 ^ 52 * 2 ^ 1074)) → (b % 2 ^ 63 ≡ 0 → ⊥) → b / 2 ^ 52 ≡ 0 → r ≡ rootBits b
+  subnormal r h z f =
+      let e : b % 2 ^ 52 ≡ b = omega arith in
+      let p : 0 < b = omega arith in
+      h ∙ ap (λ (n : ℕ). toBits binary64 (nearestRoot binary64 (n * 2 ^ 1074))) e
+      ∙ ap (toBits binary64) (sym (root-of-units binary64 b p (ofBits binary64 b) (reads-subnormal binary64 b (omega arith))))
+
+  normal : (r : ℕ) → r ≡ toBits binary64 (nearestRoot binary64 ((2 ^ 52 + b % 2 ^ 52) * 2 ^ (b / 2 ^ 52 + 1021 + 52))) →
+      b ≤ 0x7ff0000000000000 → (b ≡ 0x7ff0000000000000 → ⊥) → (b / 2 ^ 52 ≡ 0 → ⊥) → r ≡ rootBits b
+  normal r h i j f =
+      let x = b / 2 ^ 52 - 1 in
+      let m = 2 ^ 52 + b % 2 ^ 52 in
+      let field : b / 2 ^ 52 ≡ suc x = omega arith in
+      let sum : b / 2 ^ 52 + 1021 + 52 ≡ x + 1074 = omega arith in
+      let units : m * 2 ^ (b / 2 ^ 52 + 1021 + 52) ≡ m * 2 ^ x * 2 ^ 1074 =
+      ap (λ (k : ℕ). m * 2 ^ k) sum ∙ ap (λ (p : ℕ). m * p) (pow-add 2 x 1074) ∙ sym (mul-assoc m (2 ^ x) (2 ^ 1074)) in
+      h ∙ ap (λ (n : ℕ). toBits binary64 (nearestRoot binary64 n)) units
+      ∙ ap (toBits binary64)
+      (sym
+      (root-of-units binary64 (m * 2 ^ x) (mul-pos (omega arith) (pow-pos x)) (ofBits binary64 b)
+      (reads-normal binary64 b x (omega arith) field (omega arith))))
+
+ruleset laws = (zero-itself, infinity-itself, nan-bits, subnormal, normal, needs)
+
+pub sqrt-bits-spec : {M : Type 1} → statement M
+sqrt-bits-spec =
+    tie.close
+    (tie.spec
+    (λ c. search laws)  -- returns
+    (λ c. search laws)  -- returns-2
+    (λ c. search laws)  -- returns-3
+    (λ c κs. search laws)  -- subnormal-root-requires
+    (λ c. search laws)  -- returns-4
+    (λ c. search laws)  -- add-normal-root
+    (λ c. search laws)  -- add-normal-root-2
+    (λ c κs. search laws)  -- normal-root-requires
+    (λ c. search laws))  -- returns-5
