@@ -1,0 +1,59 @@
+-- What a word reads as.
+use Prim.Native.Nat.{ℕ, _+_, _*_, _<_}
+use mathlib.Core.Bool.{Bool, true, _&&_}
+use mathlib.Core.List.{List, [], _∷_}
+use lib.Dec.{ltb, leb, eqb}
+use lib.ListN.{length, getD, drop}
+use lib.IntN.{pos, negℤ}
+use Rattle.lines.specs.If.{if_then_else_}
+use Rattle.digits.specs.Digit.{digitOf}
+use Rattle.digits.specs.declared.read.Number.{Number}
+use Rattle.digits.specs.declared.read.Number.the-variants as Number
+use Rattle.digits.specs.declared.read.Decimal.{Decimal}
+use Rattle.digits.specs.declared.read.Decimal.the-variants as Decimal
+use Rattle.digits.specs.declared.read.Hex.{Hex}
+use Rattle.digits.specs.declared.read.Hex.the-variants as Hex
+
+-- every byte is a digit of the base
+unfoldable pub allDigits : ℕ → List ℕ → Bool
+allDigits base [] = true
+allDigits base (x ∷ xs) = ltb (digitOf x) base && allDigits base xs
+
+-- the number that digits say, behind others that say `n`
+unfoldable pub value : ℕ → ℕ → List ℕ → ℕ
+value base n [] = n
+value base n (x ∷ xs) = value base (n * base + digitOf x) xs
+
+-- a numeral has 1 to `most` digits
+unfoldable pub numeralOf : ℕ → ℕ → List ℕ → Number
+numeralOf base most w =
+    if ltb 0 (length w) && leb (length w) most && allDigits base w then Number.Is (value base 0 w) else Number.Not
+
+-- a number is below a bound, if it is one
+abbrev pub Below : ℕ → Number → Type 0
+Below bound (Number.Is n) = n < bound
+Below bound Number.Not = Unit {0}
+
+abbrev pub toHex : Number → Hex
+toHex (Number.Is n) = Hex.Is n
+toHex Number.Not = Hex.Not
+
+abbrev pub fromZero : Number → Decimal
+fromZero (Number.Is n) = Decimal.Is (pos n)
+fromZero Number.Not = Decimal.Not
+
+abbrev pub belowZero : Number → Decimal
+belowZero (Number.Is n) = Decimal.Is (negℤ (pos n))
+belowZero Number.Not = Decimal.Not
+
+-- 1 to 18 decimal digits, a minus sign in front of them or not
+abbrev pub decimalOf : List ℕ → Decimal
+decimalOf w = if eqb (getD w 0 0) 45 then belowZero (numeralOf 10 18 (drop 1 w)) else fromZero (numeralOf 10 18 w)
+
+-- 1 to 16 hexadecimal digits, in either case
+abbrev pub hexOf : List ℕ → Hex
+hexOf w = toHex (numeralOf 16 16 w)
+
+-- exactly 16 of them
+abbrev pub patternOf : List ℕ → Hex
+patternOf w = if eqb (length w) 16 then hexOf w else Hex.Not

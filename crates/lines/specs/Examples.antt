@@ -1,0 +1,69 @@
+-- Worked examples: antt computes each, so `refl` proves it. 97 is `a`, 98 is `b`, 32 a space and 10 a newline.
+use mathlib.Core.Bool.{true, false}
+use mathlib.Core.List.{[], _∷_}
+use mathlib.Core.Path.{_≡_, refl}
+use Rattle.lines.specs.Split.{upTo, firstFrom, split, wordsOf, wordOf}
+use Rattle.lines.specs.Reader.{freshReader, fedReader, refill, taken}
+use Rattle.lines.specs.declared.reader.Taken.the-variants.{Line, Long, More, End}
+
+no-bytes-are-a-word : wordsOf [] ≡ [] ∷ []
+unfolding split
+no-bytes-are-a-word = refl
+
+two-spaces : wordsOf (97 ∷ 32 ∷ 32 ∷ 98 ∷ []) ≡ (97 ∷ []) ∷ [] ∷ (98 ∷ []) ∷ []
+unfolding split
+two-spaces = refl
+
+no-third-word : wordOf (97 ∷ 32 ∷ 98 ∷ []) 2 ≡ []
+unfolding split
+no-third-word = refl
+
+the-second-b : firstFrom 98 1 (98 ∷ 97 ∷ 98 ∷ []) ≡ 2
+unfolding upTo
+the-second-b = refl
+
+-- nothing is held yet: all of the buffer is to be read into
+first-read : taken freshReader (97 ∷ 98 ∷ []) ≡ record { answer = More 0 freshReader; buffer = 97 ∷ 98 ∷ [] }
+unfolding upTo refill taken
+first-read = refl
+
+-- the line `a`, and then what stands behind its newline
+a-line : taken (fedReader freshReader 3) (97 ∷ 10 ∷ 98 ∷ []) ≡
+    record {
+      answer = Line 0 1 (record { start = 2; seen = 2; end = 3; over = false; long = false });
+      buffer = 97 ∷ 10 ∷ 98 ∷ [];
+    }
+unfolding upTo refill taken
+a-line = refl
+
+-- `b` has no newline: it goes to the front, and more is read behind it
+to-the-front : taken (record { start = 2; seen = 2; end = 3; over = false; long = false }) (97 ∷ 10 ∷ 98 ∷ []) ≡
+    record {
+      answer = More 1 (record { start = 0; seen = 1; end = 1; over = false; long = false });
+      buffer = 98 ∷ 10 ∷ 98 ∷ [];
+    }
+unfolding upTo refill taken
+to-the-front = refl
+
+-- unless the input has ended: then it is the last line
+last-line : taken (record { start = 2; seen = 2; end = 3; over = true; long = false }) (97 ∷ 10 ∷ 98 ∷ []) ≡
+    record {
+      answer = Line 2 3 (record { start = 3; seen = 3; end = 3; over = true; long = false });
+      buffer = 97 ∷ 10 ∷ 98 ∷ [];
+    }
+unfolding upTo refill taken
+last-line = refl
+
+no-line : taken (record { start = 3; seen = 3; end = 3; over = true; long = false }) (97 ∷ 10 ∷ 98 ∷ []) .answer ≡ End
+unfolding upTo refill taken
+no-line = refl
+
+-- a full buffer with no newline holds a part of a line that is too long, which is answered once, at its end
+too-long : taken (fedReader freshReader 2) (97 ∷ 98 ∷ []) .answer ≡ More 0 (record { start = 0; seen = 0; end = 0; over = false; long = true })
+unfolding upTo refill taken
+too-long = refl
+
+its-end : taken (record { start = 0; seen = 0; end = 2; over = false; long = true }) (97 ∷ 10 ∷ []) .answer ≡
+    Long (record { start = 2; seen = 2; end = 2; over = false; long = false })
+unfolding upTo refill taken
+its-end = refl

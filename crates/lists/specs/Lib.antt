@@ -1,0 +1,3 @@
+-- What the crate promises: `Lists` says what a word of several values reads as, and what the buffer then holds.
+pub mod Lists
+pub mod Examples
