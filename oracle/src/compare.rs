@@ -49,10 +49,11 @@ impl Differences {
     }
 }
 
-pub fn compare(subject: Subject, count: u64, seed: u64, ours: &str) -> io::Result<ExitCode> {
-    let program = Command::new(ours).stdin(Stdio::piped()).stdout(Stdio::piped()).spawn();
+pub fn compare(subject: Subject, count: u64, seed: u64, ours: &[&str]) -> io::Result<ExitCode> {
+    let mut program = Command::new(ours[0]);
+    program.args(&ours[1..]).stdin(Stdio::piped()).stdout(Stdio::piped());
     let mut program =
-        program.map_err(|error| io::Error::new(error.kind(), format!("{ours}: {error}")))?;
+        program.spawn().map_err(|error| io::Error::new(error.kind(), format!("{}: {error}", ours[0])))?;
     let input = program.stdin.take().expect("a pipe");
     let output = BufReader::with_capacity(1 << 16, program.stdout.take().expect("a pipe"));
     let feeder = thread::Builder::new().stack_size(STACK);

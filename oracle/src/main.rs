@@ -20,7 +20,7 @@ use std::thread;
 use text::{Cases, Line, Words};
 
 const USAGE: &str =
-    "oracle answer NAME | make NAME COUNT SEED | cases NAME | compare NAME COUNT SEED OURS";
+    "oracle answer NAME | make NAME COUNT SEED | cases NAME | compare NAME COUNT SEED OURS..";
 
 /// A list of 4,096 points may be split 4,096 deep.
 const STACK: usize = 1 << 28;
@@ -96,7 +96,7 @@ fn run(words: &[String]) -> io::Result<ExitCode> {
             (subject.fixed)(&mut cases);
             io::stdout().lock().write_all(&cases.text)?;
         }
-        ("compare", [count, seed, ours]) => {
+        ("compare", [count, seed, ours @ ..]) if !ours.is_empty() => {
             return compare::compare(subject, number(count)?, number(seed)?, ours);
         }
         _ => return Err(usage()),
