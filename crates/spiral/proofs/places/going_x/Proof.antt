@@ -1,0 +1,15 @@
+-- `spiral::places::going_x` meets its contract: its tests are those of the definition. Assumes nothing.
+use borrow.Author.Needs.{needs}
+use Rattle.spiral.proofs.Laws.{goes-on, goes-back, goes-across}
+use Rattle.spiral.proofs.places.going_x.Statement.{statement}
+use Rattle.spiral.proofs.places.going_x.Tie as tie
+
+ruleset laws = (goes-on, goes-back, goes-across, needs)
+
+pub going-x-spec : {M : Type 1} → statement M
+going-x-spec =
+    tie.close
+    (tie.spec
+    (λ c. search laws)  -- returns
+    (λ c. search laws)  -- returns-2
+    (λ c. search laws))  -- returns-3

@@ -1,0 +1,3 @@
+-- What the crate promises: `Spiral` follows the Rust's SpiralWalker.
+pub mod Spiral
+pub mod Examples
