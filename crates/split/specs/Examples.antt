@@ -1,0 +1,38 @@
+-- Worked examples of document 01: antt computes each, so `refl` proves it.
+use mathlib.Core.Bool.{false}
+use mathlib.Core.List.{[], _∷_}
+use mathlib.Core.Path.{_≡_, refl}
+use lib.IntN.{pos, negsuc}
+use lib.Ieee.{nan, inf, fin, binary64, ofInt, ofBits, add, sub, mul, div, lt, ne}
+use Rattle.split.specs.Distance.{sqSegDist}
+use Rattle.split.specs.Tree.{numbersOf, marksOf}
+
+-- P9: numbers of (0,0) (8,2) (0,4) (8,0)
+numbers-of-four : numbersOf (pos 0 ∷ pos 0 ∷ pos 8 ∷ pos 2 ∷ pos 0 ∷ pos 4 ∷ pos 8 ∷ pos 0 ∷ [])
+    ≡ inf false ∷ ofInt binary64 (pos 16) ∷ ofInt binary64 (pos 16) ∷ inf false ∷ []
+unfolding numbersOf sqSegDist ofInt ofBits add sub mul div lt ne
+numbers-of-four = refl
+
+-- P10: reduced at 16 the ends only, at 15 all
+marks-at-16 : marksOf (ofInt binary64 (pos 16)) (pos 0 ∷ pos 0 ∷ pos 8 ∷ pos 2 ∷ pos 0 ∷ pos 4 ∷ pos 8 ∷ pos 0 ∷ []) ≡ 1 ∷ 0 ∷ 0 ∷ 1 ∷ []
+unfolding marksOf sqSegDist ofInt ofBits add sub mul div lt ne
+marks-at-16 = refl
+
+marks-at-15 : marksOf (ofInt binary64 (pos 15)) (pos 0 ∷ pos 0 ∷ pos 8 ∷ pos 2 ∷ pos 0 ∷ pos 4 ∷ pos 8 ∷ pos 0 ∷ []) ≡ 1 ∷ 1 ∷ 1 ∷ 1 ∷ []
+unfolding marksOf sqSegDist ofInt ofBits add sub mul div lt ne
+marks-at-15 = refl
+
+-- two of equal distance: the earliest splits, and then the other lies within the tolerance, here 1/2
+earliest-of-equals : marksOf (fin false 1 (negsuc 0)) (pos 0 ∷ pos 0 ∷ pos 1 ∷ pos 1 ∷ pos 2 ∷ pos 1 ∷ pos 3 ∷ pos 0 ∷ []) ≡ 1 ∷ 1 ∷ 0 ∷ 1 ∷ []
+unfolding marksOf sqSegDist ofInt ofBits add sub mul div lt ne
+earliest-of-equals = refl
+
+-- one point is both ends, and half a point counts for nothing
+one-point : numbersOf (pos 7 ∷ pos 7 ∷ pos 7 ∷ []) ≡ inf false ∷ []
+unfolding numbersOf
+one-point = refl
+
+-- nothing is above a NaN
+no-tolerance : marksOf nan (pos 0 ∷ pos 0 ∷ pos 1 ∷ pos 9 ∷ pos 2 ∷ pos 0 ∷ []) ≡ 1 ∷ 0 ∷ 1 ∷ []
+unfolding marksOf lt
+no-tolerance = refl

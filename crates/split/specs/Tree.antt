@@ -1,0 +1,109 @@
+-- Document 01, "Numbers" and "reduce.rs": the tree of splits of a list of points; Douglas-Peucker is that tree cut at a tolerance, and a
+-- point's number is the least distance on the way down to it.
+use Prim.Native.Nat.{ℕ, zero, suc, _+_, _-_, _*_, _/_}
+use mathlib.Core.Bool.{Bool, true, false}
+use mathlib.Core.List.{List, [], _∷_, _++_}
+use lib.Dec.{ltb}
+use lib.IntN.{ℤ, pos}
+use lib.Ieee.{Float, inf, lt}
+use lib.ListN.{length, getD, replicate}
+use Rattle.laws.specs.Least.{least}
+use Rattle.point.specs.Refusals.{if_then_else_}
+use Rattle.point.specs.declared.PointI32.{PointI32}
+use Rattle.split.specs.Distance.{sqSegDist}
+use Rattle.split.specs.declared.span.Far.{Far}
+
+-- how many points a list has, and the point at a position
+abbrev pub count : List ℤ → ℕ
+count points = length points / 2
+
+abbrev pub pointAt : List ℤ → ℕ → PointI32
+pointAt points k = record { x = getD points (k * 2) (pos 0); y = getD points (k * 2 + 1) (pos 0) }
+
+-- ---- where a span is split
+
+-- how far the point at a position lies from the segment between the ends of a span. `Far` is a position with its distance
+abbrev pub distanceIn : List ℤ → ℕ → ℕ → ℕ → Float
+distanceIn points first last k = sqSegDist (pointAt points k) (pointAt points first) (pointAt points last)
+
+-- the farther of two, the first of equals
+abbrev pub fartherOf : Far → Far → Far
+fartherOf a b = if lt (a .distance) (b .distance) then b else a
+
+-- the farthest of one and the n positions from k on: "the earliest of equals"
+unfoldable pub farther : (ℕ → Float) → ℕ → ℕ → Far → Far
+farther d zero k best = best
+farther d (suc n) k best = farther d n (suc k) (fartherOf best (record { index = k; distance = d k }))
+
+-- "the splitting point is the interior point with the greatest computed squared distance": of a span that has one
+unfoldable pub farthest : List ℤ → ℕ → ℕ → Far
+unfolding farther
+farthest points first last =
+    let d = distanceIn points first last in
+    farther d (last - suc (suc first)) (suc (suc first)) (record { index = suc first; distance = d (suc first) })
+
+-- ---- the tree of splits
+
+pub data Tree : Type 0 where
+  leaf : Tree
+  node : ℕ → Float → Tree → Tree → Tree
+
+-- the split of the span from first to last, whose interior has at most n points: "until no interior is left"
+unfoldable pub treeOf : List ℤ → ℕ → ℕ → ℕ → Tree
+unfolding farthest
+treeOf points zero first last = leaf
+treeOf points (suc n) first last = elim (ltb (suc first) last) [
+  | false ↦ leaf
+  | true ↦ let far = farthest points first last in
+      node (far .index) (far .distance) (treeOf points n first (far .index)) (treeOf points n (far .index) last)
+]
+
+-- of a span, and of a whole list
+abbrev pub spanTree : List ℤ → ℕ → ℕ → Tree
+spanTree points first last = treeOf points (last - first) first last
+
+unfoldable pub tree : List ℤ → Tree
+unfolding treeOf
+tree points = spanTree points 0 (count points - 1)
+
+-- how many points a tree splits at
+unfoldable pub size : Tree → ℕ
+size leaf = 0
+size (node k d below above) = size below + suc (size above)
+
+-- the ends of a list of points, and between them what stands for its interior; a list of one point has one end
+abbrev pub framed : {A : Type 0} → List ℤ → A → List A → List A
+framed points end inside = if ltb 1 (count points) then end ∷ (inside ++ (end ∷ [])) else end ∷ []
+
+-- ---- Douglas-Peucker: a span whose greatest distance is at most the tolerance loses its interior
+
+abbrev pub mark : Bool → ℕ
+mark true = 1
+mark false = 0
+
+-- 1 for each kept and 0 for each dropped position of the interior, in order
+unfoldable pub cut : Float → Tree → List ℕ
+unfolding size
+cut tolerance leaf = []
+cut tolerance (node k d below above) = elim (lt tolerance d) [
+  | true ↦ cut tolerance below ++ (1 ∷ cut tolerance above)
+  | false ↦ replicate (size below + suc (size above)) 0
+]
+
+-- "1 for each kept and 0 for each dropped position": both ends are kept
+unfoldable pub marksOf : Float → List ℤ → List ℕ
+unfolding cut tree
+marksOf tolerance points = framed points 1 (cut tolerance (tree points))
+
+-- ---- the numbers
+
+-- "A point's number is the least distance among its own split and all splits of the spans around it": around is the least of those
+unfoldable pub down : Float → Tree → List Float
+unfolding least
+down around leaf = []
+down around (node k d below above) = down (least around d) below ++ (least around d ∷ down (least around d) above)
+
+-- "Ends carry +infinity"
+unfoldable pub numbersOf : List ℤ → List Float
+unfolding down tree
+numbersOf points = framed points (inf false) (down (inf false) (tree points))
