@@ -13,7 +13,7 @@ use Rattle.chart.proofs.Places.{one-le}
 use Rattle.chart.proofs.Rows.{rows-le}
 use Rattle.chart.proofs.lookup.bad_chart.Reads.{Post as Bad-chart}
 use Rattle.chart.proofs.lookup.pixel.Reads.{Post as Pixel}
-use Rattle.chart.proofs.lookup.around.Reads.{Post as Around}
+use Rattle.chart.proofs.corners.around.Reads.{Post as Around}
 use Rattle.chart.proofs.counting.area.Reads.{Post as Area}
 use Rattle.chart.proofs.begin.first_start.Reads.{Post as First-start}
 

@@ -3,15 +3,16 @@
 // A chart is 1 to 512 pixels wide and high. Its pixels are lent beside it as bytes: rows from the
 // top, each padded to whole bytes, the leftmost pixel the highest bit. Padding changes no answer.
 //
-// Each call is total and writes nothing. None takes more than 64 bytes of stack: `around`, the only
-// one that is not compiled into its caller, takes 48.
+// Each call is total and writes nothing. Compiled, `around` takes 48 bytes of stack, and the others lie
+// in their caller's frame.
 mod begin;
+mod corners;
 mod counting;
 mod lookup;
 
 pub use begin::first_start;
+pub use corners::around;
 pub use counting::area;
-pub use lookup::around;
 pub use lookup::bad_chart;
 pub use lookup::pixel;
 use point::PointI32;

@@ -108,10 +108,10 @@ module _ (p a b : PointI32) (P : Small p) (A : Small a) (B : Small b) where
       go true e = inl (square-big dx-below (apart (b .x) (a .x) (B .small-x) (A .small-x) e) tt)
       go false e = inr (square-big dy-below (apart (b .y) (a .y) (B .small-y) (A .small-y) (rw e at n)) tt)
 
-  -- within what the foot of the perpendicular may lie
-  record Near (q : PointF64) : Type 0 where
-    near-x : Below 100 (q .x)
-    near-y : Below 100 (q .y)
+  -- within what the foot of the perpendicular lies
+  record Bounded (q : PointF64) : Type 0 where
+    bound-x : Below 100 (q .x)
+    bound-y : Below 100 (q .y)
 
   along-below : Big (s .squared) → Below 65 (along (placeOf p) s)
   along-below g =
@@ -122,47 +122,50 @@ module _ (p a b : PointI32) (P : Small p) (A : Small a) (B : Small b) where
       tt)
       g tt
 
-  first-near : Near (record { x = f (a .x); y = f (a .y) })
-  first-near = record { near-x = below-mono (at (a .x) (A .small-x)) tt; near-y = below-mono (at (a .y) (A .small-y)) tt }
+  first-bounded : Bounded (record { x = f (a .x); y = f (a .y) })
+  first-bounded = record { bound-x = below-mono (at (a .x) (A .small-x)) tt; bound-y = below-mono (at (a .y) (A .small-y)) tt }
 
-  nearest-near : (t : Float) → Below 65 t → Near (nearest s t)
+  nearest-bounded : (t : Float) → Below 65 t → Bounded (nearest s t)
   unfolding nearest
-  nearest-near t h = go (lt one64 t) (lt zero64 t)
+  nearest-bounded t h = go (lt one64 t) (lt zero64 t)
     where
-      go : (c d : Bool) → Near (if c then record { x = s .x2; y = s .y2 } else if d then record { x = add binary64 (s .x) (mul binary64 (s .dx) t); y = add binary64 (s .y) (mul binary64 (s .dy) t) } else record { x = s .x; y = s .y })
-      go true d = record { near-x = below-mono (at (b .x) (B .small-x)) tt; near-y = below-mono (at (b .y) (B .small-y)) tt }
+      go : (c d : Bool)
+          → Bounded (if c then record { x = s .x2; y = s .y2 } else
+          if d then record { x = add binary64 (s .x) (mul binary64 (s .dx) t); y = add binary64 (s .y) (mul binary64 (s .dy) t) } else
+          record { x = s .x; y = s .y })
+      go true d = record { bound-x = below-mono (at (b .x) (B .small-x)) tt; bound-y = below-mono (at (b .y) (B .small-y)) tt }
       go false true = record {
-        near-x = below-mono (add-below (at (a .x) (A .small-x)) (mul-below dx-below h tt) tt) tt;
-        near-y = below-mono (add-below (at (a .y) (A .small-y)) (mul-below dy-below h tt) tt) tt;
+        bound-x = below-mono (add-below (at (a .x) (A .small-x)) (mul-below dx-below h tt) tt) tt;
+        bound-y = below-mono (add-below (at (a .y) (A .small-y)) (mul-below dy-below h tt) tt) tt;
       }
-      go false false = first-near
+      go false false = first-bounded
 
-  foot-near : Near (foot (placeOf p) s)
+  foot-bounded : Bounded (foot (placeOf p) s)
   unfolding foot
-  foot-near = go (hasLength s) refl
+  foot-bounded = go (hasLength s) refl
     where
-      go : (c : Bool) → hasLength s ≡ c → Near (if c then nearest s (along (placeOf p) s) else record { x = s .x; y = s .y })
-      go true e = nearest-near (along (placeOf p) s) (along-below (squared-big e))
-      go false e = first-near
+      go : (c : Bool) → hasLength s ≡ c → Bounded (if c then nearest s (along (placeOf p) s) else record { x = s .x; y = s .y })
+      go true e = nearest-bounded (along (placeOf p) s) (along-below (squared-big e))
+      go false e = first-bounded
 
-  from-below : (q : PointF64) → Near q → Below 203 (fromPlace (placeOf p) q)
+  from-below : (q : PointF64) → Bounded q → Below 203 (fromPlace (placeOf p) q)
   from-below q n =
-      let hx = sub-below (at (p .x) (P .small-x)) (n .near-x) tt in
-      let hy = sub-below (at (p .y) (P .small-y)) (n .near-y) tt in
+      let hx = sub-below (at (p .x) (P .small-x)) (n .bound-x) tt in
+      let hy = sub-below (at (p .y) (P .small-y)) (n .bound-y) tt in
       add-below (mul-below hx hx tt) (mul-below hy hy tt) tt
 
-  from-nonneg : (q : PointF64) → Near q → NonNeg (fromPlace (placeOf p) q)
+  from-nonneg : (q : PointF64) → Bounded q → NonNeg (fromPlace (placeOf p) q)
   from-nonneg q n =
-      add-nonneg (square-nonneg (sub-below (at (p .x) (P .small-x)) (n .near-x) tt)) (square-nonneg (sub-below (at (p .y) (P .small-y)) (n .near-y) tt))
+      add-nonneg (square-nonneg (sub-below (at (p .x) (P .small-x)) (n .bound-x) tt)) (square-nonneg (sub-below (at (p .y) (P .small-y)) (n .bound-y) tt))
 
   -- below 2 ^ 203, so finite
   pub distance-below : Below 203 (sqSegDist p a b)
   unfolding sqSegDist
-  distance-below = from-below (foot (placeOf p) s) foot-near
+  distance-below = from-below (foot (placeOf p) s) foot-bounded
 
   pub distance-nonneg : NonNeg (sqSegDist p a b)
   unfolding sqSegDist
-  distance-nonneg = from-nonneg (foot (placeOf p) s) foot-near
+  distance-nonneg = from-nonneg (foot (placeOf p) s) foot-bounded
 
 pub distance-fits : (p a b : PointI32) → T (fits binary64 (sqSegDist p a b))
 unfolding sqSegDist

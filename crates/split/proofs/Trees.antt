@@ -98,8 +98,7 @@ module _ (points : List ℤ) (f l : ℕ) (inside : suc f < l) where
     -- and before which each is less
     pub split-earliest : (k : ℕ) → f < k → k < middle points f l → lt (d k) (reach points f l) ≡ true
     unfolding farthest
-    split-earliest k p =
-        farther-earliest-from d n (suc f) inner k p
+    split-earliest k p = farther-earliest-from d n (suc f) inner k p
 
 -- ---- the same above a floor
 

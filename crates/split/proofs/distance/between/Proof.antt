@@ -9,7 +9,15 @@ use Rattle.split.proofs.distance.between.Statement.{statement}
 use Rattle.split.proofs.distance.between.Tie as tie
 
 from-places : (p1 p2 : PointI32) (a b : PointF64) → a ≡ placeOf p1 → b ≡ placeOf p2
-    → record { x = a .x; y = a .y; x2 = b .x; y2 = b .y; dx = sub binary64 (b .x) (a .x); dy = sub binary64 (b .y) (a .y); squared = squares (sub binary64 (b .x) (a .x)) (sub binary64 (b .y) (a .y)) }
+    → record {
+      x = a .x;
+      y = a .y;
+      x2 = b .x;
+      y2 = b .y;
+      dx = sub binary64 (b .x) (a .x);
+      dy = sub binary64 (b .y) (a .y);
+      squared = squares (sub binary64 (b .x) (a .x)) (sub binary64 (b .y) (a .y));
+    }
     ≡ segmentOf (placeOf p1) (placeOf p2)
 unfolding segmentOf
 from-places p1 p2 a b e h = rw (e, h)

@@ -1,8 +1,8 @@
 -- `chart::four` meets its contract. Assumes nothing.
 use borrow.Author.Needs.{needs}
 use Rattle.chart.proofs.Places.{stride-fits, row-bits-fit, bit-fits, parts-narrow, parts-column, one-row, pair-above, pair-below, two-pairs, bits-le, quad-fits, four-fit}
-use Rattle.chart.proofs.lookup.four.Statement.{statement}
-use Rattle.chart.proofs.lookup.four.Tie as tie
+use Rattle.chart.proofs.corners.four.Statement.{statement}
+use Rattle.chart.proofs.corners.four.Tie as tie
 
 ruleset laws = (stride-fits, row-bits-fit, bit-fits, parts-narrow, parts-column, one-row, two-pairs, bits-le, quad-fits, four-fit, needs)
 

@@ -2,8 +2,8 @@
 use borrow.Author.Needs.{needs}
 use Rattle.chart.proofs.Sizes.{within-narrow, within-column}
 use Rattle.chart.proofs.Places.{stride-fits, row-bits-fit, bit-fits, no-left, no-top, not-inside, by-length}
-use Rattle.chart.proofs.lookup.surrounded.Statement.{statement}
-use Rattle.chart.proofs.lookup.surrounded.Tie as tie
+use Rattle.chart.proofs.corners.surrounded.Statement.{statement}
+use Rattle.chart.proofs.corners.surrounded.Tie as tie
 
 ruleset laws = (within-narrow, within-column, stride-fits, row-bits-fit, bit-fits, no-left, no-top, not-inside, by-length, needs)
 

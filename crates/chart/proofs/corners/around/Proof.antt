@@ -3,8 +3,8 @@ use mathlib.Core.Path.{sym, _∙_}
 use mathlib.Core.Logic.{⊎-elim}
 use borrow.Author.Needs.{needs}
 use Rattle.chart.proofs.Signs.{cast, cast-small, around-left, around-above, around-there}
-use Rattle.chart.proofs.lookup.around.Statement.{statement}
-use Rattle.chart.proofs.lookup.around.Tie as tie
+use Rattle.chart.proofs.corners.around.Statement.{statement}
+use Rattle.chart.proofs.corners.around.Tie as tie
 
 ruleset laws = (cast, cast-small, around-left, around-above, around-there, needs)
 

@@ -1,8 +1,8 @@
 -- `chart::pair` meets its contract. Assumes nothing.
 use borrow.Author.Needs.{needs}
 use Rattle.chart.proofs.Digits.{within-a-byte, across-two, high-digit-fits, pair-fits}
-use Rattle.chart.proofs.lookup.pair.Statement.{statement}
-use Rattle.chart.proofs.lookup.pair.Tie as tie
+use Rattle.chart.proofs.corners.pair.Statement.{statement}
+use Rattle.chart.proofs.corners.pair.Tie as tie
 
 ruleset laws = (within-a-byte, across-two, high-digit-fits, pair-fits, needs)
 

@@ -1,8 +1,8 @@
 -- `chart::at_the_edge` meets its contract. Assumes nothing.
 use borrow.Author.Needs.{needs}
 use Rattle.chart.proofs.Places.{first-row, later-row, pair-le, quad-fits, four-fit}
-use Rattle.chart.proofs.lookup.at_the_edge.Statement.{statement}
-use Rattle.chart.proofs.lookup.at_the_edge.Tie as tie
+use Rattle.chart.proofs.corners.at_the_edge.Statement.{statement}
+use Rattle.chart.proofs.corners.at_the_edge.Tie as tie
 
 ruleset laws = (first-row, later-row, pair-le, quad-fits, four-fit, needs)
 

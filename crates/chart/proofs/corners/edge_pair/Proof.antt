@@ -1,8 +1,8 @@
 -- `chart::edge_pair` meets its contract. Assumes nothing.
 use borrow.Author.Needs.{needs}
 use Rattle.chart.proofs.Places.{first-column, later-column, double-fits, two-fit}
-use Rattle.chart.proofs.lookup.edge_pair.Statement.{statement}
-use Rattle.chart.proofs.lookup.edge_pair.Tie as tie
+use Rattle.chart.proofs.corners.edge_pair.Statement.{statement}
+use Rattle.chart.proofs.corners.edge_pair.Tie as tie
 
 ruleset laws = (first-column, later-column, double-fits, two-fit, needs)
 
