@@ -1,0 +1,104 @@
+-- `reduce::simplify_douglas_peucker` meets its contract: at each return the tests on the way pick a line of `douglasPeuckerOf`.
+-- Assumes nothing.
+use Prim.Native.Nat.{ℕ, _/_, _<_, _≤_}
+use mathlib.Core.Bool.{Bool, true, false}
+use mathlib.Core.List.{List}
+use mathlib.Core.Path.{_≡_, sym, _∙_}
+use native.Mathlib.Omega.{arith}
+use lib.Ieee.{Float}
+use lib.IntN.{ℤ}
+use lib.ListN.{length}
+use borrow.Author.Needs.{needs}
+use borrow.Author.Tests.{eq-eqb, ne-eqb, lt-ltb, le-ltb}
+use Rattle.point.specs.Limits.{tooMany, badPoints, badSqTolerance, placesFor}
+use Rattle.point.specs.Points.{points}
+use Rattle.point.specs.declared.Answer.the-variants.{Done, Refused}
+use Rattle.point.specs.declared.Refusal.the-variants.{TooMany, BadPoint, TooFew, BadTolerance, NoRoom}
+use Rattle.split.specs.Tree.{count, marksOf}
+use Rattle.split.proofs.Claims.{a-mark-for-each-point}
+use Rattle.split.specs.Marks.{markedOf}
+use Rattle.reduce.specs.Written.{Handed}
+use Rattle.reduce.specs.Calls.{kept, douglasPeuckerOf}
+use Rattle.reduce.proofs.Flat.{length-points}
+use Rattle.reduce.proofs.Room.{too-short, long-enough, places-fit}
+use Rattle.reduce.proofs.Marks.{marked-over, kept-over}
+use Rattle.reduce.proofs.dp.simplify_douglas_peucker.Statement.{statement}
+use Rattle.reduce.proofs.dp.simplify_douglas_peucker.Tie as tie
+
+module _ (list : List ℤ) (tolerance : Float) (out : List ℤ) (marks : List ℕ) (many : Bool) (m : many ≡ tooMany (length list)) where
+  too-many : many ≡ true → record { answer = Refused TooMany; out = out; marks = marks } ≡ douglasPeuckerOf list tolerance out marks
+  unfolding douglasPeuckerOf
+  too-many e = rw (← m, e)
+
+  module _ (e : many ≡ false) (bad : Bool) (b : bad ≡ badPoints list) where
+    bad-point : bad ≡ true → record { answer = Refused BadPoint; out = out; marks = marks } ≡ douglasPeuckerOf list tolerance out marks
+    unfolding douglasPeuckerOf
+    bad-point f = rw (← m, e, ← b, f)
+
+    module _ (f : bad ≡ false) where
+      none : count list ≡ 0 → record { answer = Refused TooFew; out = out; marks = marks } ≡ douglasPeuckerOf list tolerance out marks
+      unfolding douglasPeuckerOf
+      none z = rw (← m, e, ← b, f, eq-eqb _ _ z)
+
+      module _ (some : count list ≡ 0 → ⊥) (wrong : Bool) (w : wrong ≡ badSqTolerance tolerance) where
+        bad-tolerance : wrong ≡ true → record { answer = Refused BadTolerance; out = out; marks = marks } ≡ douglasPeuckerOf list tolerance out marks
+        unfolding douglasPeuckerOf
+        bad-tolerance g = rw (← m, e, ← b, f, ne-eqb _ _ some, ← w, g)
+
+        module _ (g : wrong ≡ false) (places : ℕ) (p : places ≡ placesFor (count list)) where
+          no-room : length out / 2 < places → record { answer = Refused NoRoom; out = out; marks = marks } ≡ douglasPeuckerOf list tolerance out marks
+          unfolding douglasPeuckerOf
+          no-room h = rw (← m, e, ← b, f, ne-eqb _ _ some, ← w, g, ← p, too-short _ _ h)
+
+          module _ (h : places ≤ length out / 2) where
+            no-marks : length marks < count list → record { answer = Refused NoRoom; out = out; marks = marks } ≡ douglasPeuckerOf list tolerance out marks
+            unfolding douglasPeuckerOf
+            no-marks l = rw (← m, e, ← b, f, ne-eqb _ _ some, ← w, g, ← p, long-enough _ _ h, lt-ltb _ _ l)
+
+            done : count list ≤ length marks → (now : List ℕ) → now ≡ markedOf list tolerance marks → (n : ℕ) (last : List ℤ) →
+                Handed (kept now (points list)) out n last → record { answer = Done n; out = last; marks = now } ≡ douglasPeuckerOf list tolerance out marks
+            unfolding douglasPeuckerOf
+            done l now s n last d =
+                let o : 0 < count list = omega arith in
+                let short : length (points list) ≤ length (marksOf tolerance list) = rw (length-points list, a-mark-for-each-point list tolerance o) (omega arith) in
+                rw (
+                  ← m,
+                  e,
+                  ← b,
+                  f,
+                  ne-eqb _ _ some,
+                  ← w,
+                  g,
+                  ← p,
+                  long-enough _ _ h,
+                  le-ltb _ _ l,
+                  d .counted,
+                  d .written,
+                  s,
+                  marked-over tolerance list marks o l,
+                  kept-over (marksOf tolerance list) marks (points list) short,
+                )
+
+-- the marks lent on are as many as they were
+marks-fit : (list : List ℤ) (marks now : List ℕ) → length now ≡ length marks → count list ≤ length marks → count list ≤ length now
+marks-fit list marks now k h = omega arith
+
+pub simplify-douglas-peucker-spec : {M : Type 1} → statement M
+simplify-douglas-peucker-spec =
+    tie.close
+    (tie.spec
+    (λ c κs. search needs)  -- too-many-requires
+    (λ c. search (too-many, needs))  -- returns
+    (λ c κs. search needs)  -- bad-points-requires
+    (λ c. search (bad-point, needs))  -- returns-2
+    (λ c. search (none, needs))  -- returns-3
+    (λ c κs. search needs)  -- bad-sq-tolerance-requires
+    (λ c. search (bad-tolerance, needs))  -- returns-4
+    (λ c κs. search needs)  -- places-for-requires
+    (λ c. search (no-room, needs))  -- returns-5
+    (λ c. search (no-marks, needs))  -- returns-6
+    (λ c κs. search needs)  -- mark-requires
+    (λ c κs. search (marks-fit, places-fit, needs))  -- keep-marked-requires
+    (λ c. search needs)  -- same-length
+    (λ c. search needs)  -- same-length-2
+    (λ c. search (done, needs)))  -- returns-7

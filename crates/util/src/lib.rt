@@ -1,0 +1,12 @@
+// Signed area, midpoint, norm and the crossing of two lines.
+mod turning;
+
+use point::Refusal;
+pub use turning::cross;
+pub use turning::signed_area;
+
+// The signed area of three points.
+pub enum Signed {
+    Area(i32),
+    Refused(Refusal),
+}
