@@ -29,7 +29,7 @@ pub fn digit(b: u8) -> u64
 }
 
 // The digit of a value, in lower case.
-pub fn glyph(d: u64) -> u8
+pub(crate) fn glyph(d: u64) -> u8
     requires { ⌜ d < 16 ⌝ }
     ensures { λ r. ⌜ r ≡ glyphOf d ⌝ }
 {

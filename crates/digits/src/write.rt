@@ -60,7 +60,7 @@ fn copy(text: &[u8], out: &mut [u8], at: usize)
     }
 }
 
-pub fn put_digits(n: u64, base: u64, k: usize, out: &mut [u8], at: usize) -> usize
+pub(crate) fn put_digits(n: u64, base: u64, k: usize, out: &mut [u8], at: usize) -> usize
     requires { ⌜ (0 < base) × (base ≤ 16) ⌝ }
     ensures { λ r. ⌜ record { next = r; out = now (out .exit) } ≡ put (lowDigits base k n) (now (out .entry)) at ⌝ }
 {
@@ -72,7 +72,7 @@ pub fn put_digits(n: u64, base: u64, k: usize, out: &mut [u8], at: usize) -> usi
 }
 
 // Puts the lowest `k` digits of `n` at place `at`, the last of them first.
-pub fn spell(n: u64, base: u64, k: usize, out: &mut [u8], at: usize)
+pub(crate) fn spell(n: u64, base: u64, k: usize, out: &mut [u8], at: usize)
     requires { ⌜ (0 < base) × (base ≤ 16) × (at + k ≤ length (now out)) ⌝ }
     ensures { λ _. ⌜ now (out .exit) ≡ take at (now (out .entry)) ++ lowDigits base k n ++ drop (at + k) (now (out .entry)) ⌝ }
 {

@@ -5,7 +5,7 @@ ghost use lib.ListN.{length};
 ghost use Rattle.lines.specs.Split.{firstFrom};
 
 // Where the item that starts at `at` ends: at a comma, or with the word.
-pub fn item_end(word: &[u8], at: usize) -> usize
+pub(crate) fn item_end(word: &[u8], at: usize) -> usize
     requires { ⌜ at ≤ length (now word) ⌝ }
     ensures { λ r. ⌜ (r ≡ firstFrom 44 at (now (word .entry))) × (at ≤ r) × (r ≤ length (now (word .entry))) ⌝ }
 {

@@ -175,14 +175,22 @@ unfolding pick
 length-pick ps [] = refl
 length-pick ps (k ∷ ks) = ap suc (length-pick ps ks)
 
-length-costly : (ps : List PointI32) (i last : ℕ) → length (costlyFrom ps i last) ≤ length ps - i + 1
-unfolding costlyFrom
-length-costly ps i last =
-    rw (length-pick ps (costly ps (length ps - i) i last ++ end ps), length-append (costly ps (length ps - i) i last) (end ps))
-    (omega (arith, costly-shorter ps (length ps - i) i last))
+module _ (ps : List PointI32) (i last : ℕ) where
+  abbrev inner : List ℕ
+  inner = costly ps (length ps - i) i last
+
+  length-costly : length (costlyFrom ps i last) ≡ length inner + 1
+  unfolding costlyFrom
+  length-costly = length-pick ps (inner ++ end ps) ∙ length-append inner (end ps)
+
+  pub costly-some : 0 < length (costlyFrom ps i last)
+  costly-some = omega (arith, length-costly)
+
+  costly-most : length (costlyFrom ps i last) ≤ length ps - i + 1
+  costly-most = omega (arith, length-costly, costly-shorter ps (length ps - i) i last)
 
 fits-many : (ps : List PointI32) → 2 < length ps → length (limitPenalties ps) ≤ placesFor (length ps)
-fits-many ps h = rw (limit-many ps h, places-many (length ps) (omega arith)) (omega (arith, length-costly ps 2 0))
+fits-many ps h = rw (limit-many ps h, places-many (length ps) (omega arith)) (omega (arith, costly-most ps 2 0))
 
 pub limit-fits : (ps : List PointI32) → length (limitPenalties ps) ≤ placesFor (length ps)
 limit-fits [] = rw (limit-none [] refl) (omega arith)

@@ -150,6 +150,9 @@ module _ (clockwise : Bool) where
         staircaseFrom clockwise before (drop i ps) ≡ staircaseFrom clockwise (getD ps i d) (drop (i + 1) ps)
     inward h e = rw (two-left h, one-left h) (gone before (getD ps i d) (getD ps (i + 1) d) (drop (i + 2) ps) e)
 
+    pub some-left : i < length ps → 0 < length (staircaseFrom clockwise before (drop i ps))
+    some-left h = rw (drop-cons ps i d h) (from-some before (getD ps i d) (drop (suc i) ps))
+
     pub last-stays : i < length ps → length ps ≤ i + 1 → staircaseFrom clockwise before (drop i ps) ≡ getD ps i d ∷ []
     unfolding staircaseFrom
     last-stays h k =

@@ -6,7 +6,7 @@ ghost use Rattle.spiral.specs.Spiral.{between, sound, turned, goingX, go
 use crate::SpiralWalker;
 
 // One place on; at the end of a side, in the next direction.
-pub fn onward(s: SpiralWalker) -> SpiralWalker
+pub(crate) fn onward(s: SpiralWalker) -> SpiralWalker
     requires { ⌜ sound s ≡ true ⌝ }
     ensures { λ r. ⌜ r ≡ onward s ⌝ }
 {

@@ -1,4 +1,6 @@
 // Signed area, midpoint, norm and the crossing of two lines.
+//
+// The cross product and the area take no stack but their return address (measured on the x86-64 code).
 mod turning;
 
 use point::Refusal;

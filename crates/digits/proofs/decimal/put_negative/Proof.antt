@@ -34,8 +34,8 @@ module _ (k at : ℕ) (out : List ℕ) (room : Bool) (says : room ≡ leb (at + 
   next-fits-too : length out < 2 ^ 64 → Fits w64 (at + 1)
   next-fits-too h = record { fits = omega (arith, fits) }
 
-  digits-fit : at + 1 + k ≤ length (set out at 45)
-  digits-fit = simp length-set (omega (arith, fits))
+  digits-fit : (b : ℕ) → at + 1 + k ≤ length (set out at b)
+  digits-fit b = simp length-set (omega (arith, fits))
 
 module _ (n k at : ℕ) (out : List ℕ) (room : Bool) (digits : k ≡ length (naturalText n)) (says : room ≡ leb (at + (k + 1)) (length out)) where
   spelled : (last : List ℕ) → room ≡ true →

@@ -29,18 +29,19 @@ use Rattle.simplify.proofs.Verdicts.{few, good, places, refused-outcome
 use Rattle.simplify.proofs.both.simplify.Statement.{statement}
 use Rattle.simplify.proofs.both.simplify.Tie as tie
 
-module _ (list out : List ℤ) (clockwise : Bool) (v : Verdict) (says : v ≡ verdict (refusal list (length out))) where
-  refused : (r : Refusal) → v ≡ Refused′ r → record { answer = Refused r; out = out } ≡ simplifyOf list clockwise out
-  unfolding simplifyOf
-  refused r e = refused-outcome list out v says (limitPenalties (removeStaircase clockwise (points list))) r e
+-- what the first pass left
+module _ (list : List ℤ) (clockwise : Bool) (kept : ℕ) (old between : List ℤ) (h : Handed (removeStaircase clockwise (points list)) old kept between) where
+  abbrev left : List PointI32
+  left = removeStaircase clockwise (points list)
 
-  -- what the first pass left
-  module _ (fine : v ≡ Fine) (kept : ℕ) (old between : List ℤ) (h : Handed (removeStaircase clockwise (points list)) old kept between) where
-    abbrev left : List PointI32
-    left = removeStaircase clockwise (points list)
+  middle : take (kept * 2 - 0) between ≡ flat left
+  middle =
+      let e : kept * 2 - 0 ≡ length (flat left) = omega (arith, h .counted, length-flat left) in
+      rw (e, h .written) (take-over-all (flat left) old)
 
+  module _ (v : Verdict) (room : ℕ) (says : v ≡ verdict (refusal list room)) (fine : v ≡ Fine) where
     short : kept * 2 ≤ 8192
-    short = omega (arith, h .counted, staircase-shorter clockwise (points list), length-points list, few list (length out) v says fine)
+    short = omega (arith, h .counted, staircase-shorter clockwise (points list), length-points list, few list room v says fine)
 
     fits : Fits w64 (kept * 2)
     fits = record { fits = omega (arith, short) }
@@ -48,25 +49,26 @@ module _ (list out : List ℤ) (clockwise : Bool) (v : Verdict) (says : v ≡ ve
     within : length between ≡ 8192 → kept * 2 ≤ length between
     within e = omega (arith, short)
 
-    middle : take (kept * 2 - 0) between ≡ flat left
-    middle =
-        let e : kept * 2 - 0 ≡ length (flat left) = omega (arith, h .counted, length-flat left) in
-        rw (e, h .written) (take-over-all (flat left) old)
-
     good-middle : badPoints (take (kept * 2 - 0) between) ≡ false
-    good-middle = rw middle (staircase-good clockwise list (good list (length out) v says fine))
+    good-middle = rw middle (staircase-good clockwise list (good list room v says fine))
 
-    second-fits : length (limitPenalties (points (take (kept * 2 - 0) between))) * 2 ≤ length out
+    second-fits : length (limitPenalties (points (take (kept * 2 - 0) between))) * 2 ≤ room
     second-fits =
-        rw (middle, points-flat left)
-        (omega (arith, limit-fits left, staircase-places clockwise list, places list (length out) v says fine))
+        rw (middle, points-flat left) (omega (arith, limit-fits left, staircase-places clockwise list, places list room v says fine))
 
-    done : (n : ℕ) (last : List ℤ) → Handed (limitPenalties (points (take (kept * 2 - 0) between))) out n last →
-        record { answer = Done n; out = last } ≡ simplifyOf list clockwise out
-    unfolding simplifyOf
-    done n last k =
-        let k′ : Handed (limitPenalties left) out n last = rw (middle, points-flat left) at k in
-        handed-outcome list out v says (limitPenalties left) fine n last k′
+module _ (list out : List ℤ) (clockwise : Bool) (v : Verdict) (says : v ≡ verdict (refusal list (length out))) where
+  refused : (r : Refusal) → v ≡ Refused′ r → record { answer = Refused r; out = out } ≡ simplifyOf list clockwise out
+  unfolding simplifyOf
+  refused r e = refused-outcome list out v says (limitPenalties (removeStaircase clockwise (points list))) r e
+
+  done : v ≡ Fine → (kept : ℕ) (old between : List ℤ) → Handed (removeStaircase clockwise (points list)) old kept between →
+      (n : ℕ) (last : List ℤ) → Handed (limitPenalties (points (take (kept * 2 - 0) between))) out n last →
+      record { answer = Done n; out = last } ≡ simplifyOf list clockwise out
+  unfolding simplifyOf
+  done fine kept old between h n last k =
+      let ps = removeStaircase clockwise (points list) in
+      let k′ : Handed (limitPenalties ps) out n last = rw (middle list clockwise kept old between h, points-flat ps) at k in
+      handed-outcome list out v says (limitPenalties ps) fine n last k′
 
 ruleset laws = (few, good, fits, within, good-middle, second-fits, refused, done, needs)
 

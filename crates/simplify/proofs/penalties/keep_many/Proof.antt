@@ -13,8 +13,8 @@ use Rattle.point.specs.declared.PointI32.{PointI32}
 use Rattle.simplify.specs.Penalties.{at, tooCostly, limitPenalties}
 use Rattle.simplify.specs.Written.{count, pointAt, Handed}
 use Rattle.simplify.proofs.Flat.{length-points, points-at}
-use Rattle.simplify.proofs.Written.{Left, begun-with, from-before, passed, room, taken, ended}
-use Rattle.simplify.proofs.Costly.{costlyFrom, limit-some, limit-many, costs-much, costs-less, costs-ended}
+use Rattle.simplify.proofs.Written.{Left, begun-with, from-before, passed, taken, ended}
+use Rattle.simplify.proofs.Costly.{costlyFrom, limit-some, limit-many, costs-much, costs-less, costs-ended, costly-some}
 use Rattle.simplify.proofs.penalties.keep_many.Statement.{statement}
 use Rattle.simplify.proofs.penalties.keep_many.Tie as tie
 
@@ -54,6 +54,10 @@ module _ (list : List ℤ) where
           rw opened (from-before first (costlyFrom (points list) 2 0) old done)
 
   module _ (old : List ℤ) (kept i last : ℕ) (out : List ℤ) (l : Left whole old kept (costlyFrom (points list) i last) out) where
+    -- there is a place for one more
+    place : kept * 2 + 1 < length out
+    place = omega (arith, l .fits, l .long, l .number, costly-some (points list) i last)
+
     -- a turn
     module _ (costly : Bool) (e : costly ≡ tooCostly (points list) last i) (h : i < count list) where
       here : i < length (points list)
@@ -70,9 +74,6 @@ module _ (list : List ℤ) where
             ∙ ap (λ (k : ℕ). at (points list) k ∷ costlyFrom (points list) (i + 1) k) g
             ∙ ap (λ (q : PointI32). q ∷ costlyFrom (points list) (i + 1) (i + 1 - 2)) (placed p (i + 1 - 2) f (omega arith))
 
-        place : kept * 2 + 1 < length out
-        place = room (passed l costly-one)
-
         kept-one : (now : List ℤ) → now ≡ set (set out (kept * 2) (p .x)) (kept * 2 + 1) (p .y) →
             Left whole old (kept + 1) (costlyFrom (points list) (i + 1) (i + 1 - 2)) now
         kept-one now g = rw g (taken (passed l costly-one))
@@ -84,9 +85,6 @@ module _ (list : List ℤ) where
           costs-ended (points list) i last (rw (length-points list) h)
           ∙ ap (λ (n : ℕ). at (points list) (n - 1) ∷ []) (length-points list)
           ∙ ap (λ (q : PointI32). q ∷ []) (placed p (count list - 1) e (omega arith))
-
-      last-place : kept * 2 + 1 < length out
-      last-place = room (passed l is-last)
 
       all-written : (now : List ℤ) → now ≡ set (set out (kept * 2) (p .x)) (kept * 2 + 1) (p .y) → Handed whole old (kept + 1) now
       all-written now g = rw g (ended (taken (passed l is-last)))
@@ -112,7 +110,7 @@ keep-many-spec =
     (λ c. (search needs, search needs, search needs, dropped-one _ _ _ _ _ _ (c .before .before .before .loop .inv .3) _ (c .before .too-costly .ensures) (c .before .before .loop-test .taken) (c .if1 .left)))  -- loop-again-2
     (λ c. search needs)  -- sub-point-at
     (λ c κs. search needs)  -- point-at-requires-3
-    (λ c κs. search (last-place, needs))  -- put-requires-3
+    (λ c κs. search (place, needs))  -- put-requires-3
     (λ c. search needs)  -- add-result
     (λ c. search needs)  -- same-length
     (λ c. search (finished, all-written, needs)))  -- returns

@@ -13,9 +13,9 @@ use Rattle.point.specs.declared.PointI32.{PointI32}
 use Rattle.simplify.specs.Staircase.{stays, staircaseFrom, removeStaircase}
 use Rattle.simplify.specs.Written.{count, pointAt, Handed}
 use Rattle.simplify.proofs.Flat.{length-points, points-at}
-use Rattle.simplify.proofs.Written.{Left, begun, begun-with, from-before, passed, room, taken, ended}
+use Rattle.simplify.proofs.Written.{Left, begun, begun-with, from-before, passed, taken, ended}
 use Rattle.simplify.proofs.Within.{limit-x, limit-y}
-use Rattle.simplify.proofs.Outward.{staircase-shorter, staircase-none, staircase-first, outward, inward, last-stays}
+use Rattle.simplify.proofs.Outward.{staircase-shorter, staircase-none, staircase-first, outward, inward, some-left, last-stays}
 use Rattle.simplify.proofs.staircase.keep_outward.Statement.{statement}
 use Rattle.simplify.proofs.staircase.keep_outward.Tie as tie
 
@@ -72,6 +72,13 @@ module _ (list : List ℤ) (clockwise : Bool) where
           finished 1 begun (ended (passed (started h) none))
 
   module _ (old : List ℤ) (kept i : ℕ) (out : List ℤ) (before : PointI32) (l : Left whole old kept (rest list clockwise before i) out) where
+    -- there is a place for one more
+    place : i < count list → kept * 2 + 1 < length out
+    unfolding rest
+    place h =
+        let k : i < length (points list) = rw (length-points list) h in
+        omega (arith, l .fits, l .long, l .number, some-left clockwise before (points list) i before k)
+
     -- a turn
     module _ (p q : PointI32) (r : Bool) (says : r ≡ stays clockwise before p q) (ep : p ≡ pointAt list i) (eq : q ≡ pointAt list (i + 1))
         (h : i < count list - 1) where
@@ -92,9 +99,6 @@ module _ (list : List ℤ) (clockwise : Bool) where
       unfolding rest
       is-inward t = rw here at (inward clockwise before (points list) i p more (rw (here, next) (sym says ∙ t)))
 
-      place : r ≡ true → kept * 2 + 1 < length out
-      place t = room (passed l (is-outward t))
-
       kept-one : r ≡ true → (now : List ℤ) → now ≡ set (set out (kept * 2) (p .x)) (kept * 2 + 1) (p .y) →
           Left whole old (kept + 1) (rest list clockwise p (i + 1)) now
       kept-one t now g = rw g (taken (passed l (is-outward t)))
@@ -110,9 +114,6 @@ module _ (list : List ℤ) (clockwise : Bool) where
           let g : i < length (points list) = rw (length-points list) h in
           let f : length (points list) ≤ i + 1 = rw (length-points list) (omega arith) in
           last-stays clockwise before (points list) i last g f ∙ ap (λ (p : PointI32). p ∷ []) (points-at list i last h ∙ sym e)
-
-      last-place : kept * 2 + 1 < length out
-      last-place = room (passed l is-last)
 
       all-written : (now : List ℤ) → now ≡ set (set out (kept * 2) (last .x)) (kept * 2 + 1) (last .y) → Handed whole old (kept + 1) now
       all-written now g = rw g (ended (taken (passed l is-last)))
@@ -141,7 +142,7 @@ keep-outward-spec =
     (λ c. search needs)  -- loop-less-2
     (λ c. search (limit-x, limit-y, dropped-one, needs))  -- loop-again-2
     (λ c κs. search needs)  -- point-at-requires-4
-    (λ c κs. search (last-place, needs))  -- put-requires-3
+    (λ c κs. search (place, needs))  -- put-requires-3
     (λ c. search needs)  -- add-result
     (λ c. search needs)  -- same-length-2
     (λ c. search (finished, all-written, needs)))  -- returns-3

@@ -15,8 +15,16 @@ module _ (p q x1 y1 x2 y2 : ℤ) (e : p ≡ toZ w32 (ofZ w32 x1) *ℤ toZ w32 (o
     (fx1 : SFits w32 x1) (fy1 : SFits w32 y1) (fx2 : SFits w32 x2) (fy2 : SFits w32 y2) where
   difference : toZ w64 (ofZ w64 p) -ℤ toZ w64 (ofZ w64 q) ≡ crossOf x1 y1 x2 y2
   difference =
-      rw (e, f, toZ-ofZ w32 x1 fx1, toZ-ofZ w32 y1 fy1, toZ-ofZ w32 x2 fx2, toZ-ofZ w32 y2 fy2,
-      toZ-ofZ w64 (x1 *ℤ y2) (product-fits x1 y2 fx1 fy2), toZ-ofZ w64 (x2 *ℤ y1) (product-fits x2 y1 fx2 fy1))
+      rw (
+        e,
+        f,
+        toZ-ofZ w32 x1 fx1,
+        toZ-ofZ w32 y1 fy1,
+        toZ-ofZ w32 x2 fx2,
+        toZ-ofZ w32 y2 fy2,
+        toZ-ofZ w64 (x1 *ℤ y2) (product-fits x1 y2 fx1 fy2),
+        toZ-ofZ w64 (x2 *ℤ y1) (product-fits x2 y1 fx2 fy1),
+      )
 
   fits : SFits w64 (toZ w64 (ofZ w64 p) -ℤ toZ w64 (ofZ w64 q))
   fits = rw difference (cross-fits x1 y2 x2 y1 fx1 fy2 fx2 fy1)
