@@ -1,15 +1,15 @@
 -- What the crate `split` writes, a mark or a number for each point, is laid over the start of the buffer; and marks past the last point
 -- select nothing. Assumes nothing.
-use Prim.Native.Nat.{ℕ, suc, _+_, _-_, _<_, _≤_}
+use Prim.Native.Nat.{ℕ, _+_, _-_, _<_, _≤_}
 use mathlib.Core.Bool.{Bool, true, false}
 use mathlib.Core.List.{List, [], _∷_, _++_}
-use mathlib.Core.Path.{_≡_, refl, sym, ap, _∙_}
+use mathlib.Core.Path.{_≡_, refl}
 use native.Mathlib.Omega.{arith}
-use lib.Dec.{ltb, eqb}
-use lib.Ieee.{Float, inf}
+use lib.Dec.{eqb}
+use lib.Ieee.{Float}
 use lib.IntN.{ℤ}
-use lib.ListN.{length, drop, length-append}
-use borrow.Author.Tests.{ltb-true, ltb-false, ne-eqb, le-ltb}
+use lib.ListN.{length, drop}
+use borrow.Author.Tests.{ne-eqb, le-ltb}
 use Rattle.laws.specs.Lists.{over}
 use Rattle.point.specs.declared.PointI32.{PointI32}
 use Rattle.split.specs.Tree.{count, marksOf, numbersOf}

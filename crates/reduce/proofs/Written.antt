@@ -6,13 +6,12 @@ use mathlib.Core.Path.{_≡_, refl, sym, ap, subst, _∙_}
 use native.Mathlib.Numerals.{add-one}
 use native.Mathlib.Omega.{arith}
 use lib.IntN.{ℤ}
-use lib.ListN.{length, take, drop, set, length-set, take-append-drop}
+use lib.ListN.{length, drop, set, length-set, take-append-drop}
 use lib.Seq.{take-suc-set, drop-set-lt, drop-drop, append-snoc}
 use Rattle.laws.specs.Lists.{over}
 use Rattle.point.specs.Points.{flat}
 use Rattle.point.specs.declared.PointI32.{PointI32}
 use Rattle.reduce.specs.Written.{onto, Handed}
-use Rattle.reduce.proofs.Flat.{length-flat}
 
 -- ---- a value, and a point, put down before the rest is
 

@@ -1,8 +1,8 @@
 -- One number per point decides at every tolerance: the points of a zoom by a list's numbers are those that Douglas-Peucker keeps.
 -- Assumes nothing.
-use Prim.Native.Nat.{ℕ, suc, _+_, _<_, _≤_}
-use mathlib.Core.Bool.{Bool, true, false, _||_}
-use mathlib.Core.List.{List, [], _∷_, _++_, map}
+use Prim.Native.Nat.{ℕ, _+_, _<_, _≤_}
+use mathlib.Core.Bool.{Bool, true, false}
+use mathlib.Core.List.{List, [], _∷_, _++_}
 use mathlib.Core.Path.{_≡_, refl, sym, ap, ap₂, _∙_}
 use native.Mathlib.Omega.{arith}
 use lib.Dec.{ltb}
@@ -15,9 +15,9 @@ use Rattle.point.specs.Points.{points}
 use Rattle.split.specs.Tree.{count, tree, mark, down, marksOf, numbersOf}
 use Rattle.split.proofs.Claims.{a-number-for-each-point}
 use Rattle.split.proofs.Cuts.{marked}
-use Rattle.split.proofs.Frames.{framed-many, framed-one, framed-map}
+use Rattle.split.proofs.Frames.{framed-many, framed-one}
 use Rattle.split.proofs.Nesting.{below-infinity, numbers-decide-in-range}
-use Rattle.reduce.specs.Calls.{Points, shortFor, kept, marksAfter, marksBy, douglasPeuckerOf, zoomOf}
+use Rattle.reduce.specs.Calls.{shortFor, kept, marksAfter, marksBy, douglasPeuckerOf, zoomOf}
 
 -- ---- the marks by the numbers: both ends are kept, as they are where both are below no tolerance
 

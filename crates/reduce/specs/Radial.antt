@@ -1,5 +1,5 @@
 -- The radial pass (reduce.rs, simplify_radial_dist): a point is kept when it lies farther than the tolerance from the last one kept.
-use mathlib.Core.Bool.{Bool, true, false, not, _&&_}
+use mathlib.Core.Bool.{Bool, true, false, _&&_}
 use mathlib.Core.List.{List, [], _∷_}
 use lib.Ieee.{Float, lt}
 use lib.Signed.{leZ}

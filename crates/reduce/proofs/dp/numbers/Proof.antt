@@ -47,17 +47,20 @@ module _ (list : List ℤ) (out : List Float) (many : Bool) (m : many ≡ tooMan
             let l : count list ≤ length out = omega (arith, places-enough (count list)) in
             rw (← m, e, ← b, f, ne-eqb _ _ some, ← p, le-ltb _ _ h, s, numbered-over list out o l)
 
+returns-5 : tie.Need-returns-5
+returns-5 c = search done
+
 pub numbers-spec : {M : Type 1} → statement M
 numbers-spec =
     tie.close
     (tie.spec
-    (λ c κs. search needs)  -- too-many-requires
-    (λ c. search (too-many, needs))  -- returns
-    (λ c κs. search needs)  -- bad-points-requires
-    (λ c. search (bad-point, needs))  -- returns-2
-    (λ c. search (none, needs))  -- returns-3
-    (λ c κs. search needs)  -- places-for-requires
-    (λ c. search (no-room, needs))  -- returns-4
-    (λ c κs. search needs)  -- number-requires
+    (λ c κs. tt)  -- too-many-requires
+    (λ c. search too-many)  -- returns
+    (λ c κs. tt)  -- bad-points-requires
+    (λ c. search bad-point)  -- returns-2
+    (λ c. search none)  -- returns-3
+    (λ c κs. tt)  -- places-for-requires
+    (λ c. search no-room)  -- returns-4
+    (λ c κs. tt)  -- number-requires
     (λ c. search needs)  -- same-length
-    (λ c. search (done, needs)))  -- returns-5
+    returns-5)

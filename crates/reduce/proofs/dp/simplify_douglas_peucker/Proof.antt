@@ -3,7 +3,7 @@
 use Prim.Native.Nat.{ℕ, _/_, _<_, _≤_}
 use mathlib.Core.Bool.{Bool, true, false}
 use mathlib.Core.List.{List}
-use mathlib.Core.Path.{_≡_, sym, _∙_}
+use mathlib.Core.Path.{_≡_}
 use native.Mathlib.Omega.{arith}
 use lib.Ieee.{Float}
 use lib.IntN.{ℤ}
@@ -83,22 +83,25 @@ module _ (list : List ℤ) (tolerance : Float) (out : List ℤ) (marks : List �
 marks-fit : (list : List ℤ) (marks now : List ℕ) → length now ≡ length marks → count list ≤ length marks → count list ≤ length now
 marks-fit list marks now k h = omega arith
 
+returns-7 : tie.Need-returns-7
+returns-7 c = search done
+
 pub simplify-douglas-peucker-spec : {M : Type 1} → statement M
 simplify-douglas-peucker-spec =
     tie.close
     (tie.spec
-    (λ c κs. search needs)  -- too-many-requires
-    (λ c. search (too-many, needs))  -- returns
-    (λ c κs. search needs)  -- bad-points-requires
-    (λ c. search (bad-point, needs))  -- returns-2
-    (λ c. search (none, needs))  -- returns-3
-    (λ c κs. search needs)  -- bad-sq-tolerance-requires
-    (λ c. search (bad-tolerance, needs))  -- returns-4
-    (λ c κs. search needs)  -- places-for-requires
-    (λ c. search (no-room, needs))  -- returns-5
-    (λ c. search (no-marks, needs))  -- returns-6
-    (λ c κs. search needs)  -- mark-requires
+    (λ c κs. tt)  -- too-many-requires
+    (λ c. search too-many)  -- returns
+    (λ c κs. tt)  -- bad-points-requires
+    (λ c. search bad-point)  -- returns-2
+    (λ c. search none)  -- returns-3
+    (λ c κs. tt)  -- bad-sq-tolerance-requires
+    (λ c. search bad-tolerance)  -- returns-4
+    (λ c κs. tt)  -- places-for-requires
+    (λ c. search no-room)  -- returns-5
+    (λ c. search no-marks)  -- returns-6
+    (λ c κs. tt)  -- mark-requires
     (λ c κs. search (marks-fit, places-fit, needs))  -- keep-marked-requires
     (λ c. search needs)  -- same-length
     (λ c. search needs)  -- same-length-2
-    (λ c. search (done, needs)))  -- returns-7
+    returns-7)

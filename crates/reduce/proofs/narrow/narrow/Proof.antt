@@ -4,7 +4,7 @@ use Prim.Native.Nat.{ℕ, _*_, _<_, _≤_}
 use mathlib.Core.Bool.{Bool, true, false, _||_}
 use mathlib.Core.List.{List, []}
 use mathlib.Core.Option.{none}
-use mathlib.Core.Path.{_≡_, refl, sym, ap, _∙_}
+use mathlib.Core.Path.{_≡_, sym, ap, _∙_}
 use native.Mathlib.Omega.{arith}
 use lib.Dec.{leb}
 use lib.Ieee.{Float, binary64, ofBits, ofInt, mul, eq}
@@ -135,18 +135,21 @@ module _ (list : List ℤ) (tolerance : Float) (all : Bool) (a : all ≡ (leb (c
         kept-over (marksOf sq (flat ps)) marks (points (flat ps)) short,
       )
 
+returns : tie.Need-returns
+returns c = search (copied, needs)
+
 pub narrow-spec : {M : Type 1} → statement M
 narrow-spec =
     tie.close
     (tie.spec
-    (λ c κs. search needs)  -- is-whole-requires
+    (λ c κs. tt)  -- is-whole-requires
     (λ c κs. search (list-fits, needs))  -- radial-unless-requires
     (λ c κs. search (part-fits, needs))  -- list-of-requires
     (λ c κs. search (copy-fits, needs))  -- copy-requires
     (λ c. search needs)  -- same-length
     (λ c. search needs)  -- same-length-2
-    (λ c. search (copied, needs))  -- returns
-    (λ c κs. search needs)  -- mark-requires
+    returns
+    (λ c κs. tt)  -- mark-requires
     (λ c κs. search (marks-fit, out-fits, needs))  -- keep-marked-requires
     (λ c. search needs)  -- same-length-3
     (λ c. search needs)  -- same-length-4

@@ -67,16 +67,16 @@ pub reduce-spec : {M : Type 1} → statement M
 reduce-spec =
     tie.close
     (tie.spec
-    (λ c κs. search needs)  -- too-many-requires
-    (λ c. search (too-many, needs))  -- returns
-    (λ c κs. search needs)  -- bad-points-requires
-    (λ c. search (bad-point, needs))  -- returns-2
-    (λ c κs. search needs)  -- bad-tolerance-requires
-    (λ c. search (bad-tolerance, needs))  -- returns-3
-    (λ c κs. search needs)  -- short-requires
-    (λ c. search (no-room, needs))  -- returns-4
-    (λ c κs. search (ready, needs))  -- narrow-requires
+    (λ c κs. tt)  -- too-many-requires
+    (λ c. search too-many)  -- returns
+    (λ c κs. tt)  -- bad-points-requires
+    (λ c. search bad-point)  -- returns-2
+    (λ c κs. tt)  -- bad-tolerance-requires
+    (λ c. search bad-tolerance)  -- returns-3
+    (λ c κs. tt)  -- short-requires
+    (λ c. search no-room)  -- returns-4
+    (λ c κs. search ready)  -- narrow-requires
     (λ c. search needs)  -- same-length
     (λ c. search needs)  -- same-length-2
     (λ c. search needs)  -- same-length-3
-    (λ c. search (done, needs)))  -- returns-5
+    (λ c. search done))  -- returns-5

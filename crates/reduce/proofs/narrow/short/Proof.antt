@@ -1,7 +1,7 @@
 -- `reduce::short` meets its contract: half as many values are points. Assumes nothing.
 use Prim.Native.Nat.{ℕ, _*_, _/_, _<_, _≤_}
 use mathlib.Core.Bool.{Bool, true, _||_}
-use mathlib.Core.Path.{_≡_, ap}
+use mathlib.Core.Path.{_≡_}
 use lib.Dec.{ltb}
 use borrow.Author.Needs.{needs}
 use Rattle.point.specs.Limits.{placesFor}
@@ -29,7 +29,7 @@ pub short-spec : {M : Type 1} → statement M
 short-spec =
     tie.close
     (tie.spec
-    (λ c κs. search laws)  -- places-for-requires
+    (λ c κs. tt)  -- places-for-requires
     (λ c. search laws)  -- returns
     (λ c. search laws)  -- returns-2
     (λ c. search laws))  -- returns-3

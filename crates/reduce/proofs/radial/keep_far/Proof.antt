@@ -1,9 +1,9 @@
 -- `reduce::keep_far` meets its contract. The loop's invariant: what the radial pass keeps of the points from `k` on, after `prev`, completes
 -- what it keeps of all; and `prev` lies within the limits. Assumes nothing.
 use Prim.Native.Nat.{ℕ, _+_, _-_, _*_, _<_, _≤_}
-use mathlib.Core.Bool.{Bool, true, false}
-use mathlib.Core.List.{List, [], _∷_}
-use mathlib.Core.Path.{_≡_, refl, sym, ap, subst, _∙_}
+use mathlib.Core.Bool.{true, false}
+use mathlib.Core.List.{List, _∷_}
+use mathlib.Core.Path.{_≡_, sym, ap, subst, _∙_}
 use native.Mathlib.Omega.{arith}
 use lib.Ieee.{Float, lt}
 use lib.IntN.{ℤ, natAbs}
@@ -18,7 +18,7 @@ use Rattle.split.specs.Tree.{count, pointAt}
 use Rattle.reduce.specs.Distance.{sqDist}
 use Rattle.reduce.specs.Radial.{radial, radialFrom, radialEnd}
 use Rattle.reduce.specs.Written.{onto, Handed}
-use Rattle.reduce.proofs.Flat.{length-flat, length-points, flat-points, points-at}
+use Rattle.reduce.proofs.Flat.{length-points, flat-points, points-at}
 use Rattle.reduce.proofs.Written.{Left, begun-with, from-before, passed, room, taken, rest-fits, completed}
 use Rattle.reduce.proofs.Far.{radial-shorter, radial-whole, radial-first, far, near, none-left}
 use Rattle.reduce.proofs.radial.keep_far.Statement.{statement}
@@ -118,6 +118,9 @@ dropped-one : (p prev : PointI32) (d : Float) → d ≡ sqDist p prev → (list 
     Left (whole list tolerance) old kept (rest list tolerance prev (k + 1)) out
 dropped-one p prev d f list tolerance old kept k out l h e t = passed l (is-near list tolerance old kept k out prev l p d h e f t)
 
+returns : tie.Need-returns Inv-loop μ-loop
+returns c = search (copied, needs)
+
 pub keep-far-spec : {M : Type 1} → statement M
 keep-far-spec =
     tie.close
@@ -126,7 +129,7 @@ keep-far-spec =
     μ-loop
     (λ c κs. search needs)  -- copy-requires
     (λ c. search needs)  -- same-length
-    (λ c. search (copied, needs))  -- returns
+    returns
     (λ c κs. search needs)  -- point-at-requires
     (λ c κs. search needs)  -- put-requires
     (λ c. search (limit-x, limit-y, started, needs))  -- loop-holds

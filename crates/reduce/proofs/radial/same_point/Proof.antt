@@ -1,7 +1,7 @@
 -- `reduce::same_point` meets its contract: coordinates with the same bits are equal. Assumes nothing.
-use Prim.Native.Nat.{ℕ, _<_, _^_}
+use Prim.Native.Nat.{_<_, _^_}
 use mathlib.Core.Bool.{Bool, true, false, _&&_, false≢true}
-use mathlib.Core.Path.{_≡_, refl, sym, ap, _∙_}
+use mathlib.Core.Path.{_≡_, refl, sym, ap}
 use native.Mathlib.Nat.{le-antisymm}
 use mir.Syntax.{w32}
 use mir.Val.{ofZ}

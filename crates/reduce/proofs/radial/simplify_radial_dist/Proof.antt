@@ -2,8 +2,7 @@
 use Prim.Native.Nat.{ℕ, _/_, _<_, _≤_}
 use mathlib.Core.Bool.{Bool, true, false}
 use mathlib.Core.List.{List}
-use mathlib.Core.Path.{_≡_, sym, _∙_}
-use native.Mathlib.Omega.{arith}
+use mathlib.Core.Path.{_≡_}
 use lib.Ieee.{Float}
 use lib.IntN.{ℤ}
 use lib.ListN.{length}
@@ -45,20 +44,18 @@ module _ (list : List ℤ) (tolerance : Float) (out : List ℤ) (many : Bool) (m
         unfolding radialOf
         done h n last d = rw (← m, e, ← b, f, ← w, g, ← p, long-enough _ _ h, d .counted, d .written)
 
-ruleset laws = (too-many, bad-point, bad-tolerance, no-room, done, not-bad, list-fits, needs)
-
 pub simplify-radial-dist-spec : {M : Type 1} → statement M
 simplify-radial-dist-spec =
     tie.close
     (tie.spec
-    (λ c κs. search laws)  -- too-many-requires
-    (λ c. search laws)  -- returns
-    (λ c κs. search laws)  -- bad-points-requires
-    (λ c. search laws)  -- returns-2
-    (λ c κs. search laws)  -- bad-sq-tolerance-requires
-    (λ c. search laws)  -- returns-3
-    (λ c κs. search laws)  -- places-for-requires
-    (λ c. search laws)  -- returns-4
-    (λ c κs. search laws)  -- keep-far-requires
-    (λ c. search laws)  -- same-length
-    (λ c. search laws))  -- returns-5
+    (λ c κs. tt)  -- too-many-requires
+    (λ c. search too-many)  -- returns
+    (λ c κs. tt)  -- bad-points-requires
+    (λ c. search bad-point)  -- returns-2
+    (λ c κs. tt)  -- bad-sq-tolerance-requires
+    (λ c. search bad-tolerance)  -- returns-3
+    (λ c κs. tt)  -- places-for-requires
+    (λ c. search no-room)  -- returns-4
+    (λ c κs. search (not-bad, list-fits))  -- keep-far-requires
+    (λ c. search needs)  -- same-length
+    (λ c. search done))  -- returns-5

@@ -2,7 +2,7 @@
 use Prim.Native.Nat.{ℕ, _+_, _*_, _<_, _≤_}
 use mathlib.Core.Bool.{Bool, true, false}
 use mathlib.Core.List.{List, [], _∷_}
-use mathlib.Core.Path.{_≡_, refl, sym, _∙_}
+use mathlib.Core.Path.{_≡_, sym, _∙_}
 use native.Mathlib.Omega.{arith}
 use lib.IntN.{ℤ}
 use lib.ListN.{length, set}
@@ -48,7 +48,7 @@ pub with-last-spec : {M : Type 1} → statement M
 with-last-spec =
     tie.close
     (tie.spec
-    (λ c κs. search laws)  -- same-point-requires
+    (λ c κs. tt)  -- same-point-requires
     (λ c. search laws)  -- returns
     (λ c κs. search laws)  -- put-requires
     (λ c. search laws)  -- add-result

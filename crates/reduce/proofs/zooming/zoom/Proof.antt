@@ -3,7 +3,6 @@ use Prim.Native.Nat.{ℕ, _/_, _<_, _≤_}
 use mathlib.Core.Bool.{Bool, true, false}
 use mathlib.Core.List.{List}
 use mathlib.Core.Path.{_≡_}
-use native.Mathlib.Omega.{arith}
 use lib.Ieee.{Float}
 use lib.IntN.{ℤ}
 use lib.ListN.{length}
@@ -55,20 +54,23 @@ module _ (list : List ℤ) (numbers : List Float) (tolerance : Float) (out : Lis
             unfolding zoomOf
             done h n last d = rw (← m, e, ← b, f, eq-eqb _ _ each, ne-eqb _ _ some, ← w, g, ← p, long-enough _ _ h, d .counted, d .written)
 
+returns-7 : tie.Need-returns-7
+returns-7 c = search done
+
 pub zoom-spec : {M : Type 1} → statement M
 zoom-spec =
     tie.close
     (tie.spec
-    (λ c κs. search needs)  -- too-many-requires
-    (λ c. search (too-many, needs))  -- returns
-    (λ c κs. search needs)  -- bad-points-requires
-    (λ c. search (bad-point, needs))  -- returns-2
-    (λ c. search (not-each, needs))  -- returns-3
-    (λ c. search (none, needs))  -- returns-4
-    (λ c κs. search needs)  -- bad-sq-tolerance-requires
-    (λ c. search (bad-tolerance, needs))  -- returns-5
-    (λ c κs. search needs)  -- places-for-requires
-    (λ c. search (no-room, needs))  -- returns-6
+    (λ c κs. tt)  -- too-many-requires
+    (λ c. search too-many)  -- returns
+    (λ c κs. tt)  -- bad-points-requires
+    (λ c. search bad-point)  -- returns-2
+    (λ c. search not-each)  -- returns-3
+    (λ c. search none)  -- returns-4
+    (λ c κs. tt)  -- bad-sq-tolerance-requires
+    (λ c. search bad-tolerance)  -- returns-5
+    (λ c κs. tt)  -- places-for-requires
+    (λ c. search no-room)  -- returns-6
     (λ c κs. search (some-points, places-fit, needs))  -- keep-above-requires
     (λ c. search needs)  -- same-length
-    (λ c. search (done, needs)))  -- returns-7
+    returns-7)
