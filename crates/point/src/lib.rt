@@ -1,7 +1,6 @@
 // Points, the limits that every call of the library keeps, and the refusals with their numbers.
 //
-// Each test here is total and looks at nothing but what it is handed. No call takes more than
-// 64 bytes of stack.
+// Each test here is total and looks at nothing but what it is handed. Its stack is not measured yet.
 mod limits;
 
 ghost use mathlib.Core.Path.{_≡_};

@@ -1,7 +1,7 @@
 // Whole walks along the outline of a chart.
 //
-// The deepest call, of `walk`, takes 568 bytes of stack with its return addresses (measured on the
-// x86-64 code at -O3, no call inlined).
+// The deepest call, of `walk`, takes 568 bytes of stack with its return addresses (the frames of
+// the x86-64 code at -O3 along that path, added up; no call inlined).
 mod course;
 mod stretch;
 mod ways;
