@@ -1,0 +1,2 @@
+-- `Table` has document 01's proved table.
+pub mod Table
