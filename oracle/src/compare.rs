@@ -4,6 +4,7 @@
 //! of its input before it writes a line, and still nothing piles up here.
 
 use crate::random::Random;
+use crate::smooth;
 use crate::text::Line;
 use crate::{Subject, STACK};
 use std::io::{self, BufRead, BufReader, BufWriter, Write};
@@ -52,8 +53,9 @@ impl Differences {
 pub fn compare(subject: Subject, count: u64, seed: u64, ours: &[&str]) -> io::Result<ExitCode> {
     let mut program = Command::new(ours[0]);
     program.args(&ours[1..]).stdin(Stdio::piped()).stdout(Stdio::piped());
-    let mut program =
-        program.spawn().map_err(|error| io::Error::new(error.kind(), format!("{}: {error}", ours[0])))?;
+    let mut program = program
+        .spawn()
+        .map_err(|error| io::Error::new(error.kind(), format!("{}: {error}", ours[0])))?;
     let input = program.stdin.take().expect("a pipe");
     let output = BufReader::with_capacity(1 << 16, program.stdout.take().expect("a pipe"));
     let feeder = thread::Builder::new().stack_size(STACK);
@@ -68,6 +70,9 @@ pub fn compare(subject: Subject, count: u64, seed: u64, ours: &[&str]) -> io::Re
     }
     if rest {
         println!("our program wrote more lines than there are cases");
+    }
+    if subject.name == "smooth" {
+        println!("{}", smooth::held());
     }
     report(&differences, count)?;
     let agreed = differences.count == 0 && !rest && status.success();

@@ -5,6 +5,8 @@ pub const TOO_MANY: u8 = 2;
 pub const BAD_POINT: u8 = 3;
 pub const TOO_FEW: u8 = 4;
 pub const BAD_TOLERANCE: u8 = 5;
+pub const BAD_FLAGS: u8 = 6;
+pub const BAD_SETTINGS: u8 = 7;
 pub const NO_WAY: u8 = 8;
 pub const STUCK: u8 = 9;
 pub const NO_ROOM: u8 = 10;
@@ -52,7 +54,11 @@ pub fn bad_chart(width: usize, height: usize, bytes: &[u8]) -> bool {
 
 /// "Room is judged on n alone: n places, 2 where n is 1."
 pub fn places(points: usize) -> usize {
-    if points == 1 { 2 } else { points }
+    if points == 1 {
+        2
+    } else {
+        points
+    }
 }
 
 /// A place for a point is two values.

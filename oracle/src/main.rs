@@ -3,12 +3,16 @@
 mod chart;
 mod compare;
 mod document;
+mod frames;
 mod panics;
 mod point;
 mod random;
 mod reduce;
+mod simplify;
+mod smooth;
 mod sqrt;
 mod text;
+mod util;
 mod walker;
 #[cfg(test)]
 mod worked;
@@ -48,8 +52,17 @@ macro_rules! subject {
     };
 }
 
-const SUBJECTS: [Subject; 5] =
-    [subject!(sqrt), subject!(point), subject!(chart), subject!(walker), subject!(reduce)];
+const SUBJECTS: [Subject; 9] = [
+    subject!(sqrt),
+    subject!(point),
+    subject!(chart),
+    subject!(walker),
+    subject!(reduce),
+    subject!(simplify),
+    subject!(frames),
+    subject!(util),
+    subject!(smooth),
+];
 
 impl Subject {
     fn named(name: &str) -> Option<Subject> {

@@ -54,6 +54,10 @@ fn p3_staircase() {
     assert_eq!(points(&removed), [(0, 0), (0, 0)]);
     assert_eq!(points(&path(&PIXEL).simplify(true)), [(0, 0), (0, 0)]);
     assert_eq!(points(&path(&SQUARE).simplify(true)), SQUARE);
+    let two = format!("0 2 0,0,0,0{}", OLD.repeat(6));
+    says("simplify", "remove_staircase 0 0,0,1,0,1,1,0,1,0,0 10", &two);
+    says("simplify", "simplify 1 0,0,1,0,1,1,0,1,0,0 10", &two);
+    says("simplify", "simplify 1 0,0,4,0,4,4,0,4,0,0 10", "0 5 0,0,4,0,4,4,0,4,0,0");
 }
 
 #[test]
@@ -64,6 +68,10 @@ fn p4_p5_p6_penalties() {
     assert_eq!(limited(&[(0, 0), (100, 0), (0, 0)]), [(0, 0), (0, 0)]);
     let (a, b) = (PointI32::new(0, 0), PointI32::new(100, 0));
     assert!(evaluate_penalty(a, b, a).is_nan());
+    says("simplify", "limit_penalties 7,7 4", "0 2 7,7,7,7");
+    says("simplify", "limit_penalties 7,7 3", "10 0 -99999,-99999,-99999");
+    says("simplify", "limit_penalties 1,2,3,4 4", "0 1 1,2,-99999,-99999");
+    says("simplify", "limit_penalties 0,0,100,0,0,0 6", "0 2 0,0,0,0,-99999,-99999");
 }
 
 #[test]
@@ -159,4 +167,9 @@ fn tempting_but_wrong() {
     let numbers = "7ff0000000000000,4022000000000000,3fe6276276276277,7ff0000000000000";
     says("reduce", "numbers 0,0,1,3,2,3,3,0 4", &format!("0 4 {numbers}"));
     // Adding the last of two points: see P5. Letting a NaN win: see P6.
+    // An integer shortcut for a penalty: here the area's square is the third side's length, and so
+    // the penalty 1, but the double is less.
+    let (a, b, c) = (PointI32::new(0, 0), PointI32::new(1, 2), PointI32::new(15, 20));
+    assert_eq!(signed_area(a, b, c).pow(2), 4 * 25);
+    assert!(evaluate_penalty(a, b, c) < 1.0);
 }

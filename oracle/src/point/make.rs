@@ -59,7 +59,7 @@ fn list<T>(random: &mut Random, value: impl Fn(&mut Random, bool) -> T) -> Vec<T
     (0..length).map(|i| value(random, i == bad)).collect()
 }
 
-fn coordinate(random: &mut Random, any: bool) -> i32 {
+pub fn coordinate(random: &mut Random, any: bool) -> i32 {
     match random.below(3) {
         _ if any && random.once_in(2) => random.next() as i32,
         _ if any => random.pick(&I32_EDGES),
@@ -77,7 +77,7 @@ fn coordinate_f64(random: &mut Random, any: bool) -> f64 {
 }
 
 /// A number of any kind, often at a limit or a step or two beside it.
-fn beside(random: &mut Random, limit: f64) -> f64 {
+pub fn beside(random: &mut Random, limit: f64) -> f64 {
     let value = match random.below(5) {
         0 => random.pick(&F64_EDGES),
         1 => f64::from_bits(random.next()),

@@ -108,7 +108,7 @@ fn length(random: &mut Random) -> usize {
 }
 
 /// Makes a list bad: an odd count, or a coordinate out of range.
-fn damage(random: &mut Random, values: &mut Vec<i32>) {
+pub(crate) fn damage(random: &mut Random, values: &mut Vec<i32>) {
     if values.is_empty() || random.once_in(2) {
         values.push(1);
     } else {
@@ -117,7 +117,7 @@ fn damage(random: &mut Random, values: &mut Vec<i32>) {
     }
 }
 
-fn room(random: &mut Random, enough: usize) -> usize {
+pub(crate) fn room(random: &mut Random, enough: usize) -> usize {
     match random.below(4) {
         0 => enough.saturating_sub(random.below(3) as usize),
         1 => enough + random.below(5) as usize,

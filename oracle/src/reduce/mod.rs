@@ -3,9 +3,9 @@
 
 pub mod fixed;
 pub mod make;
-mod numbers;
+pub(crate) mod numbers;
 mod placed;
-mod shapes;
+pub(crate) mod shapes;
 
 use crate::document::{self, bad_point, lowest, no_room, places, too_many};
 use crate::document::{BAD_POINT, BAD_TOLERANCE, NO_ROOM, TOO_FEW, TOO_MANY};
@@ -167,21 +167,21 @@ fn answer_zoom(sq_tolerance: f64, values: &[i32], numbers: &[f64], room: usize, 
     answer.i32s(&lent(room, I32_MARKER, values_of(&kept)));
 }
 
-fn put_number_and_count(answer: &mut Line, refusal: Option<u8>, count: usize) {
+pub(crate) fn put_number_and_count(answer: &mut Line, refusal: Option<u8>, count: usize) {
     answer.number(refusal.unwrap_or(0)).number(count);
 }
 
 /// A lent buffer after the call: what was written at its front, and behind that its old contents.
-fn lent<T: Copy>(room: usize, marker: T, mut front: Vec<T>) -> Vec<T> {
+pub(crate) fn lent<T: Copy>(room: usize, marker: T, mut front: Vec<T>) -> Vec<T> {
     assert!(front.len() <= room, "the room was judged too small to be needed");
     front.resize(room, marker);
     front
 }
 
-fn points_of(values: &[i32]) -> Vec<PointI32> {
+pub(crate) fn points_of(values: &[i32]) -> Vec<PointI32> {
     values.chunks_exact(2).map(|pair| PointI32::new(pair[0], pair[1])).collect()
 }
 
-fn values_of(points: &[PointI32]) -> Vec<i32> {
+pub(crate) fn values_of(points: &[PointI32]) -> Vec<i32> {
     points.iter().flat_map(|point| [point.x, point.y]).collect()
 }

@@ -89,7 +89,7 @@ fn zigzag(random: &mut Random, n: usize) -> Vec<i32> {
 }
 
 /// The outline of a chart, closed, at most `n` points of it.
-fn outline(random: &mut Random, n: usize) -> Vec<i32> {
+pub(crate) fn outline(random: &mut Random, n: usize) -> Vec<i32> {
     let side = (n as u64).clamp(2, 60);
     let (width, height) = (random.within(1, side as i64), random.within(1, side as i64));
     let chart = draw::blobs(random, width as usize, height as usize);

@@ -89,7 +89,7 @@ fn any(random: &mut Random) -> Walk {
     walk
 }
 
-fn any_chart(random: &mut Random) -> Chart {
+pub fn any_chart(random: &mut Random) -> Chart {
     let mut size = |most| random.within(1, most) as usize;
     let (few, many) = ((size(12), size(12)), (size(80), size(80)));
     match random.below(32) {
