@@ -1,3 +1,3 @@
-pub mod Puts
+pub mod Numerals
 pub mod Signs
 pub mod Claims

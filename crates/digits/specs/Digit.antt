@@ -1,7 +1,7 @@
 -- A digit and its value.
 use Prim.Native.Nat.{ℕ, _+_, _-_}
 use lib.Dec.{ltb, leb}
-use Rattle.lines.specs.If.{if_then_else_}
+use Rattle.laws.specs.If.{if_then_else_}
 
 -- the value of a digit, `0` to `9`, `A` to `F` and `a` to `f`; 16 for what is none
 unfoldable pub digitOf : ℕ → ℕ
@@ -13,7 +13,3 @@ digitOf b =
     if ltb b 97 then 16 else
     if leb b 102 then b - 97 + 10 else
     16
-
--- the digit of a value below 16, in lower case
-abbrev pub glyphOf : ℕ → ℕ
-glyphOf d = if ltb d 10 then 48 + d else 87 + d

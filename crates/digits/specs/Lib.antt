@@ -1,6 +1,4 @@
--- What the crate promises: `Numeral` says what a word reads as, `Text` how a number is written, `Put` where.
+-- What the crate promises: `Numeral` says what a word reads as.
 pub mod Digit
 pub mod Numeral
-pub mod Text
-pub mod Put
 pub mod Examples

@@ -5,8 +5,10 @@ use mathlib.Core.List.{List, [], _∷_}
 use lib.Dec.{ltb, leb, eqb}
 use lib.ListN.{length, getD, drop}
 use lib.IntN.{pos, negℤ}
-use Rattle.lines.specs.If.{if_then_else_}
+use Rattle.laws.specs.If.{if_then_else_}
 use Rattle.digits.specs.Digit.{digitOf}
+use Rattle.digits.specs.declared.natural.Natural.{Natural}
+use Rattle.digits.specs.declared.natural.Natural.the-variants as Natural
 use Rattle.digits.specs.declared.read.Number.{Number}
 use Rattle.digits.specs.declared.read.Number.the-variants as Number
 use Rattle.digits.specs.declared.read.Decimal.{Decimal}
@@ -49,6 +51,11 @@ belowZero Number.Not = Decimal.Not
 -- 1 to 18 decimal digits, a minus sign in front of them or not
 abbrev pub decimalOf : List ℕ → Decimal
 decimalOf w = if eqb (getD w 0 0) 45 then belowZero (numeralOf 10 18 (drop 1 w)) else fromZero (numeralOf 10 18 w)
+
+-- decimal digits that say what 64 bits hold, at least one
+abbrev pub naturalOf : List ℕ → Natural
+naturalOf w =
+    if ltb 0 (length w) && allDigits 10 w && ltb (value 10 0 w) 18446744073709551616 then Natural.Is (value 10 0 w) else Natural.Not
 
 -- 1 to 16 hexadecimal digits, in either case
 abbrev pub hexOf : List ℕ → Hex

@@ -1,7 +1,6 @@
 // A number, read from a word.
 ghost use mathlib.Core.Path.{_≡_};
 ghost use Prim.Native.Nat.{_≤_, _<_, _^_};
-ghost use lib.ListN.{length};
 ghost use Rattle.digits.specs.Numeral.{Below, numeralOf, fromZero, belowZero, decimalOf, hexOf, patternOf};
 use crate::glyphs::digit;
 

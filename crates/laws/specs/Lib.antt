@@ -1,4 +1,5 @@
 -- Laws that the proofs of the other crates cite, each file on one subject, leaves first.
+--     If           a choice by a test
 --     Joined       two tests joined by `&&` or `||`
 --     Integers     sizes of signed numbers, what fits `i32` and `i64`, tests of them; `signed-laws` for `search`
 --     Ring         an integer as a difference of naturals, for `omega`; the ring and its order
@@ -12,6 +13,7 @@
 --     Ranges       what a range test of a float says
 --     Lists        a list laid over the start of a lent buffer (`over`), and stores there
 --     Examples     a squared distance, bounded
+pub mod If
 pub mod Joined
 pub mod Integers
 pub mod Ring

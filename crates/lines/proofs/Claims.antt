@@ -9,7 +9,6 @@ use lib.ListN.{length}
 use borrow.Author.Tests.{ltb-true}
 use denote.Ref.{now}
 use Rattle.lines.specs.If.{if-cases}
-use Rattle.lines.specs.Split.{firstFrom, wordsOf, wordOf}
 use Rattle.lines.specs.Reader.{Outcome, fedReader, inside, newline, lineEnds, inputEnds, count, refill, took, taken}
 use Rattle.lines.specs.declared.reader.Reader.{Reader}
 use Rattle.lines.specs.declared.reader.Taken.{Taken}
@@ -17,9 +16,6 @@ use Rattle.lines.specs.declared.reader.Taken.the-variants.{Line, Long, M
 use Rattle.lines.proofs.reader.fresh.Reads as fresh
 use Rattle.lines.proofs.reader.fed.Reads as fed
 use Rattle.lines.proofs.reader.take.Reads as take
-use Rattle.lines.proofs.split.find.Reads as find
-use Rattle.lines.proofs.split.word.Reads as word
-use Rattle.lines.proofs.split.words.Reads as words
 
 -- No contract leaves a choice: of equal arguments it allows one result, and one last content of the buffer. `Post` is the
 -- contract itself, as Rattle reads it off the source, at arguments `a`, a result `r` and parameters at exit `s`.
@@ -34,19 +30,6 @@ pub take-determined : (κs : _) (a a′ : _) (t t′ : Taken) (s s′ : _) → t
     a .0 ≡ a′ .0 → now (a .1 .0) ≡ now (a′ .1 .0) →
     _≡_ {A = Outcome} (record { answer = t; buffer = now (s .1 .0) }) (record { answer = t′; buffer = now (s′ .1 .0) })
 take-determined κs a a′ t t′ s s′ p q reader buffer = p ∙ ap₂ taken reader buffer ∙ sym q
-
-pub find-determined : (κs : _) (a a′ : _) (r r′ : ℕ) (s s′ : _) → find.Post κs a r s → find.Post κs a′ r′ s′ →
-    now (a .0) ≡ now (a′ .0) → a .1 .0 ≡ a′ .1 .0 → a .1 .1 .0 ≡ a′ .1 .1 .0 → r ≡ r′
-find-determined κs a a′ r r′ s s′ p q list byte from =
-    p ∙ ap₂ (λ (b : ℕ) (i : ℕ). firstFrom b i (now (a .0))) byte from ∙ ap (firstFrom (a′ .1 .0) (a′ .1 .1 .0)) list ∙ sym q
-
-pub words-determined : (κs : _) (a a′ : _) (r r′ : ℕ) (s s′ : _) → words.Post κs a r s → words.Post κs a′ r′ s′ →
-    now (a .0) ≡ now (a′ .0) → r ≡ r′
-words-determined κs a a′ r r′ s s′ p q line = p ∙ ap (λ (l : List ℕ). length (wordsOf l)) line ∙ sym q
-
-pub word-determined : (κs : _) (a a′ : _) (r r′ : _) (s s′ : _) → word.Post κs a r s → word.Post κs a′ r′ s′ →
-    now (a .0) ≡ now (a′ .0) → a .1 .0 ≡ a′ .1 .0 → now r ≡ now r′
-word-determined κs a a′ r r′ s s′ p q line place = p ∙ ap₂ wordOf line place ∙ sym q
 
 -- A line that is handed out lies in the buffer, and so does the place to read into.
 abbrev pub Within : Taken → ℕ → Type 0

@@ -2,25 +2,9 @@
 use mathlib.Core.Bool.{true, false}
 use mathlib.Core.List.{[], _∷_}
 use mathlib.Core.Path.{_≡_, refl}
-use Rattle.lines.specs.Split.{upTo, firstFrom, split, wordsOf, wordOf}
+use Rattle.line_words.specs.Split.{upTo}
 use Rattle.lines.specs.Reader.{freshReader, fedReader, refill, taken}
 use Rattle.lines.specs.declared.reader.Taken.the-variants.{Line, Long, More, End}
-
-no-bytes-are-a-word : wordsOf [] ≡ [] ∷ []
-unfolding split
-no-bytes-are-a-word = refl
-
-two-spaces : wordsOf (97 ∷ 32 ∷ 32 ∷ 98 ∷ []) ≡ (97 ∷ []) ∷ [] ∷ (98 ∷ []) ∷ []
-unfolding split
-two-spaces = refl
-
-no-third-word : wordOf (97 ∷ 32 ∷ 98 ∷ []) 2 ≡ []
-unfolding split
-no-third-word = refl
-
-the-second-b : firstFrom 98 1 (98 ∷ 97 ∷ 98 ∷ []) ≡ 2
-unfolding upTo
-the-second-b = refl
 
 -- nothing is held yet: all of the buffer is to be read into
 first-read : taken freshReader (97 ∷ 98 ∷ []) ≡ record { answer = More 0 freshReader; buffer = 97 ∷ 98 ∷ [] }

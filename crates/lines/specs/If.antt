@@ -1,13 +1,2 @@
--- A choice by a test, to be read as one.
-use mathlib.Core.Bool.{Bool, true, false}
-use mathlib.Core.Path.{_≡_, refl}
-
-infixr 5 if_then_else_
-abbrev pub if_then_else_ : {A : Type 0} → Bool → A → A → A
-if true then a else b = a
-if false then a else b = b
-
--- what holds of both sides, each where its test leads to it, holds of the choice
-pub if-cases : {A : Type 0} (P : A → Type 0) (t : Bool) (a b : A) → (t ≡ true → P a) → (t ≡ false → P b) → P (if t then a else b)
-if-cases P true a b p q = p refl
-if-cases P false a b p q = q refl
+-- A choice by a test, to be read as one, for the promises of this crate and of those above it.
+pub use Rattle.laws.specs.If.{if_then_else_, if-cases}

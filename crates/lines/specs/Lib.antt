@@ -1,5 +1,4 @@
--- What the crate promises. `Reader` says what `take` answers, `Split` what the words of a line are.
+-- What the crate promises: `Reader` says what `take` answers.
 pub mod If
-pub mod Split
 pub mod Reader
 pub mod Examples

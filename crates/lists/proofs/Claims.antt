@@ -10,7 +10,7 @@ use lib.IntN.{ℤ}
 use lib.ListN.{length}
 use borrow.Author.Tests.{leb-true}
 use denote.Ref.{now}
-use Rattle.lines.specs.If.{if-cases}
+use Rattle.laws.specs.If.{if-cases}
 use Rattle.lists.specs.Lists.{Outcome, isDash, listOf, readInto, number, pattern, bytesOf}
 use Rattle.lists.specs.declared.Read.{Read}
 use Rattle.lists.specs.declared.Read.the-variants.{Is}

@@ -11,8 +11,8 @@ use lib.Dec.{eqb}
 use lib.ListN.{length, take, drop, set, take-append-drop, length-set}
 use lib.Seq.{drop-drop, drop-set-lt, take-suc-set, append-snoc, set-split}
 use borrow.Author.Tests.{eqb-true, eqb-false, le-leb, lt-leb}
-use Rattle.lines.specs.Split.{firstFrom}
-use Rattle.lines.proofs.Parts.{part-last, part-more}
+use Rattle.line_words.specs.Split.{firstFrom}
+use Rattle.line_words.proofs.Parts.{part-last, part-more}
 use Rattle.lists.specs.Lists.{Outcome, isDash, prepend, allOf, itemsOf, listOf, countOf, over, Room, readInto}
 use Rattle.lists.specs.declared.Read.{Read}
 use Rattle.lists.specs.declared.Read.the-variants as Read

@@ -4,7 +4,7 @@ use mathlib.Core.List.{[], _∷_}
 use mathlib.Core.Option.{some, none}
 use mathlib.Core.Path.{_≡_, refl}
 use lib.IntN.{pos, negsuc}
-use Rattle.lines.specs.Split.{split}
+use Rattle.line_words.specs.Split.{split}
 use Rattle.digits.specs.Digit.{digitOf}
 use Rattle.digits.specs.Numeral.{allDigits, value, numeralOf}
 use Rattle.lists.specs.Lists.{allOf, listOf, number, pairOf, bytesOf, readInto}

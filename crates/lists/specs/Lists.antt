@@ -7,8 +7,8 @@ use lib.Dec.{ltb, leb, eqb}
 use lib.IntN.{ℤ}
 use lib.ListN.{length, getD, drop}
 use lib.Signed.{mag}
-use Rattle.lines.specs.If.{if_then_else_}
-use Rattle.lines.specs.Split.{split}
+use Rattle.laws.specs.If.{if_then_else_}
+use Rattle.line_words.specs.Split.{split}
 use Rattle.digits.specs.Digit.{digitOf}
 use Rattle.digits.specs.Numeral.{decimalOf, patternOf}
 use Rattle.digits.specs.declared.read.Decimal.{Decimal}

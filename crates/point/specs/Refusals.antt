@@ -2,16 +2,11 @@
 use Prim.Native.Nat.{ℕ}
 use mathlib.Core.Bool.{Bool, true, false}
 use mathlib.Core.Option.{Option, some}
+pub use Rattle.laws.specs.If.{if_then_else_}
 use Rattle.point.specs.declared.Answer.{Answer}
 use Rattle.point.specs.declared.Answer.the-variants.{Done, Refused}
 use Rattle.point.specs.declared.Refusal.{Refusal}
 use Rattle.point.specs.declared.Refusal.the-variants.{BadSize, TooMany, BadPoint, TooFew, BadTolerance, BadFlags, BadSettings, NoWay, Stuck, NoRoom, BadFrame}
-
--- a choice by a test, to be read as one
-infixr 5 if_then_else_
-abbrev pub if_then_else_ : {A : Type 0} → Bool → A → A → A
-if true then a else b = a
-if false then a else b = b
 
 -- the number of a refusal
 abbrev pub refusalNumber : Refusal → ℕ

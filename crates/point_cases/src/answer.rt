@@ -24,7 +24,7 @@ pub fn answer(line: &[u8], out: &mut [u8], at: usize) -> usize {
     let Verdict::Is(n) = judge(lines::word(line, 0), lines::word(line, 1)) else {
         return bad(out, at);
     };
-    let end = digits::put_decimal(n as i64, out, at);
+    let end = digits::put_natural(n as u64, out, at);
     digits::put_byte(b'\n', out, end)
 }
 

@@ -15,6 +15,7 @@ use borrow.Author.Tests.{lt-ltb, le-ltb, le-leb, lt-leb}
 use Rattle.digits.specs.Digit.{digitOf}
 use Rattle.digits.specs.Numeral.{allDigits, value, numeralOf}
 use Rattle.digits.specs.declared.read.Number.the-variants.{Is, Not}
+use Rattle.digits.proofs.Numerals.{passed, said}
 use Rattle.digits.proofs.read.numeral.Statement.{statement}
 use Rattle.digits.proofs.read.numeral.Tie as tie
 
@@ -53,17 +54,8 @@ too-long : (word : List ℕ) (base most : ℕ) → (length word ≡ 0 → ⊥) �
 unfolding numeralOf
 too-long word base most z h = let p : 0 < length word = omega arith in rw (lt-ltb 0 (length word) p, lt-leb _ _ h)
 
--- a digit is passed; what is none decides; past the last, all are digits
+-- what is no digit decides; past the last, all are digits
 module _ (word : List ℕ) (base i : ℕ) (all : allDigits base word ≡ allDigits base (drop i word)) where
-  passed : (d : ℕ) → i < length word → d ≡ digitOf (getD word i 0) → d < base → allDigits base word ≡ allDigits base (drop (i + 1) word)
-  unfolding allDigits
-  passed d h e l = rw (all, add-one, drop-cons word i 0, ← e, lt-ltb _ _ l)
-
-  said : (n d : ℕ) → value base 0 word ≡ value base n (drop i word) → i < length word → d ≡ digitOf (getD word i 0) →
-      value base 0 word ≡ value base (n * base + d) (drop (i + 1) word)
-  unfolding value
-  said n d v h e = rw (v, add-one, drop-cons word i 0, e)
-
   module _ (most : ℕ) (some : length word ≡ 0 → ⊥) (few : length word ≤ most) where
     no-digit : (d : ℕ) → i < length word → d ≡ digitOf (getD word i 0) → base ≤ d → Not ≡ numeralOf base most word
     unfolding allDigits numeralOf

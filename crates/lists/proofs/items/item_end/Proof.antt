@@ -1,6 +1,6 @@
 -- `lists::item_end` meets its contract. Assumes nothing.
 use borrow.Author.Needs.{needs}
-use Rattle.lines.proofs.Parts.{find-le}
+use Rattle.line_words.proofs.Parts.{find-le}
 use Rattle.lists.proofs.items.item_end.Statement.{statement}
 use Rattle.lists.proofs.items.item_end.Tie as tie
 

@@ -6,7 +6,7 @@ use mathlib.Core.Path.{_≡_, sym, ap, _∙_}
 use lib.IntN.{ℤ}
 use lib.ListN.{length, take, drop}
 use borrow.Author.Needs.{needs}
-use Rattle.lines.specs.Split.{firstFrom}
+use Rattle.line_words.specs.Split.{firstFrom}
 use Rattle.lists.specs.Lists.{smallOf, smallSaid, number, itemsOf, countOf}
 use Rattle.lists.specs.declared.numbers.Small.{Small}
 use Rattle.lists.specs.declared.numbers.Small.the-variants as Small

@@ -10,7 +10,7 @@ use mir.Syntax.{w32}
 use mir.Val.{SFits, toZ, ofZ}
 use mir.Facts.{toZ-ofZ}
 use borrow.Author.Needs.{needs}
-use Rattle.lines.specs.Split.{firstFrom}
+use Rattle.line_words.specs.Split.{firstFrom}
 use Rattle.lists.specs.Lists.{smallOf, smallSaid, number, itemsOf, over, Room}
 use Rattle.lists.specs.declared.numbers.Small.{Small}
 use Rattle.lists.specs.declared.numbers.Small.the-variants as Small

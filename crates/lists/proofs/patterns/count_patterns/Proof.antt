@@ -5,7 +5,7 @@ use mathlib.Core.List.{List}
 use mathlib.Core.Path.{_≡_, sym, ap, _∙_}
 use lib.ListN.{length, take, drop}
 use borrow.Author.Needs.{needs}
-use Rattle.lines.specs.Split.{firstFrom}
+use Rattle.line_words.specs.Split.{firstFrom}
 use Rattle.digits.specs.Numeral.{patternOf}
 use Rattle.digits.specs.declared.read.Hex.{Hex}
 use Rattle.digits.specs.declared.read.Hex.the-variants as Hex

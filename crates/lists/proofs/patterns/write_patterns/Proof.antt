@@ -8,7 +8,7 @@ use lib.ListN.{length, take, drop, set}
 use mir.Syntax.{w64}
 use mir.Val.{Fits}
 use borrow.Author.Needs.{needs, scaled-fits}
-use Rattle.lines.specs.Split.{firstFrom}
+use Rattle.line_words.specs.Split.{firstFrom}
 use Rattle.digits.specs.Numeral.{patternOf}
 use Rattle.digits.specs.declared.read.Hex.{Hex}
 use Rattle.digits.specs.declared.read.Hex.the-variants as Hex

@@ -7,7 +7,7 @@ use lib.Ieee.{binary64, ofBits, nanBits, div}
 use lib.Ieee.Bits.{nanBits-above}
 use borrow.Author.Needs.{needs}
 use borrow.Author.Tests.{le-ltb}
-use Rattle.sqrt.proofs.Patterns.{reads-nan}
+use Rattle.roots.specs.Patterns.{reads-nan}
 use Rattle.sqrt.proofs.bits.from_bits.Statement.{statement}
 use Rattle.sqrt.proofs.bits.from_bits.Tie as tie
 

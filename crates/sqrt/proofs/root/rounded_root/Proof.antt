@@ -9,7 +9,7 @@ use mir.Syntax.{w64}
 use mir.Val.{Fits}
 use borrow.Author.Needs.{needs}
 use Rattle.sqrt.specs.Nearest.{NearestWhole}
-use Rattle.sqrt.proofs.BitByBit.{Found, bit-set, bit-clear, left-small, rounds-up, rounds-down}
+use Rattle.roots.specs.BitByBit.{Found, bit-set, bit-clear, left-small, rounds-up, rounds-down}
 use Rattle.sqrt.proofs.root.rounded_root.Statement.{statement}
 use Rattle.sqrt.proofs.root.rounded_root.Tie as tie
 
