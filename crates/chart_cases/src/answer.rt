@@ -4,16 +4,12 @@
 use chart::Cells;
 use chart::Chart;
 use chart::Start;
+use digits::Natural;
 use lists::Read;
 use point::PointI32;
 
 // The most bytes that are read.
 const MOST: usize = 65536;
-
-enum Size {
-    Is(usize),
-    Bad,
-}
 
 enum Coordinate {
     Is(i32),
@@ -22,15 +18,15 @@ enum Coordinate {
 
 // Puts the answer to the case of a line at a place of `out`, and answers the place behind it.
 pub fn answer(line: &[u8], out: &mut [u8], at: usize) -> usize {
-    let Size::Is(width) = read_size(lines::word(line, 1)) else {
+    let Natural::Is(width) = digits::read_natural(lines::word(line, 1)) else {
         return bad(out, at);
     };
-    let Size::Is(height) = read_size(lines::word(line, 2)) else {
+    let Natural::Is(height) = digits::read_natural(lines::word(line, 2)) else {
         return bad(out, at);
     };
     let chart = Chart {
-        width: width,
-        height: height,
+        width: width as usize,
+        height: height as usize,
     };
     let text = lines::word(line, 3);
     if text.len() == 0 {
@@ -53,27 +49,6 @@ fn with_bytes(line: &[u8], chart: Chart, text: &[u8], out: &mut [u8], at: usize)
 
 fn bad(out: &mut [u8], at: usize) -> usize {
     digits::put_bytes(b"bad line\n", out, at)
-}
-
-// A decimal that 64 bits hold.
-fn read_size(word: &[u8]) -> Size {
-    if word.len() == 0 {
-        return Size::Bad;
-    }
-    let mut n = 0usize;
-    let mut i = 0;
-    while i < word.len() {
-        let d = digits::digit(word[i]) as usize;
-        if 9 < d {
-            return Size::Bad;
-        }
-        if (usize::MAX - d) / 10 < n {
-            return Size::Bad;
-        }
-        n = n * 10 + d;
-        i += 1;
-    }
-    Size::Is(n)
 }
 
 fn read_coordinate(word: &[u8]) -> Coordinate {
@@ -120,17 +95,9 @@ fn pixel(line: &[u8], chart: Chart, pixels: &[u8], out: &mut [u8], at: usize) ->
 
 fn area(cells: Cells, out: &mut [u8], at: usize) -> usize {
     match cells {
-        Cells::Set(n) => numbers(0, small(n), out, at),
+        Cells::Set(n) => numbers(0, n as u64, out, at),
         Cells::Refused(refusal) => numbers(refusal.number(), 0, out, at),
     }
-}
-
-// An area as a number to write. The largest chart has 262,144 pixels.
-fn small(area: usize) -> i64 {
-    if 262144 < area {
-        return -1;
-    }
-    area as i64
 }
 
 fn start(start: Start, out: &mut [u8], at: usize) -> usize {
@@ -140,15 +107,15 @@ fn start(start: Start, out: &mut [u8], at: usize) -> usize {
     }
 }
 
-fn numbers(number: u8, n: i64, out: &mut [u8], at: usize) -> usize {
-    let mut end = digits::put_decimal(number as i64, out, at);
+fn numbers(number: u8, n: u64, out: &mut [u8], at: usize) -> usize {
+    let mut end = digits::put_natural(number as u64, out, at);
     end = digits::put_byte(b' ', out, end);
-    end = digits::put_decimal(n, out, end);
+    end = digits::put_natural(n, out, end);
     digits::put_byte(b'\n', out, end)
 }
 
 fn point(number: u8, p: PointI32, out: &mut [u8], at: usize) -> usize {
-    let mut end = digits::put_decimal(number as i64, out, at);
+    let mut end = digits::put_natural(number as u64, out, at);
     end = digits::put_byte(b' ', out, end);
     end = digits::put_decimal(wide(p.x), out, end);
     end = digits::put_byte(b' ', out, end);

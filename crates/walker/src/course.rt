@@ -4,11 +4,9 @@ ghost use mathlib.Core.Bool.{false, not, _&&_};
 ghost use mathlib.Core.Path.{_≡_};
 ghost use lib.ListN.{length, set};
 ghost use Rattle.point.specs.Limits.{inRange};
-ghost use Rattle.chart.specs.Pixels.{badChart};
-ghost use Rattle.walker.specs.Walk.{walked};
-ghost use Rattle.walker.specs.Course.{OnEdge, rest, placeOf, counted, HasRoom, written};
-use crate::Walked;
-use crate::stretch::Place;
+ghost use Rattle.bitmap.specs.Pixels.{badChart};
+ghost use Rattle.walks.specs.Walk.{walked};
+ghost use Rattle.walks.specs.Course.{OnEdge, rest, placeOf, counted, HasRoom, written};
 use crate::stretch::is_on;
 use crate::stretch::run;
 use crate::ways::NONE;
@@ -16,6 +14,8 @@ use crate::ways::way_in;
 use chart::Chart;
 use point::PointI32;
 use point::Refusal;
+use walks::Place;
+use walks::Walked;
 
 // After a run, a walk of more steps than these is stuck.
 const LIMIT: u32 = 1000000;

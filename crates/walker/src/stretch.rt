@@ -3,23 +3,16 @@ ghost use Prim.Native.Nat.{_≤_};
 ghost use mathlib.Core.Bool.{false};
 ghost use mathlib.Core.Option.{some};
 ghost use mathlib.Core.Path.{_≡_};
-ghost use Rattle.chart.specs.Pixels.{badChart};
-ghost use Rattle.walker.specs.Walk.{samePoint};
-ghost use Rattle.walker.specs.Course.{OnEdge, ranOn, point};
+ghost use Rattle.bitmap.specs.Pixels.{badChart};
+ghost use Rattle.walks.specs.Walk.{samePoint};
+ghost use Rattle.walks.specs.Course.{OnEdge, ranOn, point};
 use crate::ways::across;
 use crate::ways::downward;
 use crate::ways::exit_in;
 use crate::ways::exits_after;
 use chart::Chart;
 use point::PointI32;
-
-// Where a walk stands, the exit that it takes from there, and how many steps it has made.
-pub(crate) struct Place {
-    pub x: i32,
-    pub y: i32,
-    pub way: u8,
-    pub steps: u32,
-}
+use walks::Place;
 
 // The run from a place: it goes on until the exit taken would change direction.
 pub(crate) fn run(chart: Chart, pixels: &[u8], from: Place, clockwise: bool) -> Place

@@ -4,8 +4,8 @@
 // `chart::around` numbers it, says which of them are exits: those whose two side pixels differ.
 ghost use Prim.Native.Nat.{_*_, _/_, _%_, _^_, _<_};
 ghost use mathlib.Core.Path.{_≡_};
-ghost use Rattle.chart.specs.Pixels.{aroundOf};
-ghost use Rattle.walker.specs.Course.{across, downward, ExitsAfter, FirstExits, firstExit};
+ghost use Rattle.bitmap.specs.Pixels.{aroundOf};
+ghost use Rattle.walks.specs.Course.{across, downward, ExitsAfter, FirstExits, firstExit};
 use chart::Chart;
 use point::PointI32;
 

@@ -16,7 +16,7 @@ pub fn fixed(cases: &mut Cases) {
     fixed_rooms(cases);
     fixed_refusals(cases);
     fixed_zooms(cases);
-    fixed_random(cases);
+    fixed_random(cases, make, 9, 500);
     fixed_long(cases);
     for line in BAD_LINES {
         cases.line(line);
@@ -103,14 +103,19 @@ fn fixed_rooms(cases: &mut Cases) {
     }
 }
 
-/// Bad lists, bad tolerances, and several refusals at once.
-fn fixed_refusals(cases: &mut Cases) {
+/// Lists with half a point, and with a coordinate at a limit or beyond it.
+pub(crate) fn bad_lists() -> Vec<Vec<i32>> {
     let mut lists = vec![vec![1], vec![1, 2, 3], vec![0, 0, 1, 1, 2]];
     for edge in [16383, -16383, 16384, -16384, i32::MAX, i32::MIN] {
         lists.extend([vec![edge, 0], vec![0, edge], vec![0, 0, 1, edge, 2, 2]]);
     }
+    lists
+}
+
+/// Bad lists, bad tolerances, and several refusals at once.
+fn fixed_refusals(cases: &mut Cases) {
     for name in CALLS {
-        for values in &lists {
+        for values in &bad_lists() {
             cases.case(|case| Call::new(name, 1.0, values).write(case));
             let call = Call { room: 0, ..Call::new(name, -1.0, values) };
             cases.case(|case| call.write(case));
@@ -159,11 +164,15 @@ fn fixed_zooms(cases: &mut Cases) {
     }
 }
 
-/// The first 500 generated cases of a seed that are not long.
-fn fixed_random(cases: &mut Cases) {
-    let mut random = Random::new(9);
+/// The first `left` generated cases of a seed that are not long.
+pub(crate) fn fixed_random(
+    cases: &mut Cases,
+    make: fn(&mut Random, u64, &mut Line),
+    seed: u64,
+    mut left: usize,
+) {
+    let mut random = Random::new(seed);
     let mut text = Vec::new();
-    let mut left = 500;
     while left > 0 {
         text.clear();
         make(&mut random, 0, &mut Line::at_end_of(&mut text));

@@ -3,8 +3,9 @@
 use super::make::{make, Call, CALLS};
 use super::shapes;
 use crate::random::Random;
-use crate::reduce;
-use crate::text::{Cases, Line};
+use crate::reduce::fixed::{bad_lists, fixed_random};
+use crate::reduce::shapes::stroll;
+use crate::text::Cases;
 
 pub fn fixed(cases: &mut Cases) {
     for values in base_lists() {
@@ -13,7 +14,7 @@ pub fn fixed(cases: &mut Cases) {
     fixed_small(cases);
     fixed_rooms(cases);
     fixed_refusals(cases);
-    fixed_random(cases);
+    fixed_random(cases, make, 11, 400);
     fixed_long(cases);
     for line in BAD_LINES {
         cases.line(line);
@@ -101,30 +102,11 @@ fn fixed_rooms(cases: &mut Cases) {
 
 /// Bad lists, with room and without.
 fn fixed_refusals(cases: &mut Cases) {
-    let mut lists = vec![vec![1], vec![1, 2, 3], vec![0, 0, 1, 1, 2]];
-    for edge in [16383, -16383, 16384, -16384, i32::MAX, i32::MIN] {
-        lists.extend([vec![edge, 0], vec![0, edge], vec![0, 0, 1, edge, 2, 2]]);
-    }
     for name in CALLS {
-        for values in &lists {
+        for values in &bad_lists() {
             cases.case(|case| Call::new(name, false, values).write(case));
             let call = Call { room: 0, ..Call::new(name, false, values) };
             cases.case(|case| call.write(case));
-        }
-    }
-}
-
-/// The first 400 generated cases of a seed that are not long.
-fn fixed_random(cases: &mut Cases) {
-    let mut random = Random::new(11);
-    let mut text = Vec::new();
-    let mut left = 400;
-    while left > 0 {
-        text.clear();
-        make(&mut random, 0, &mut Line::at_end_of(&mut text));
-        if text.len() < 600 {
-            cases.line(std::str::from_utf8(&text).expect("a line of text"));
-            left -= 1;
         }
     }
 }
@@ -137,12 +119,11 @@ fn fixed_long(cases: &mut Cases) {
     cases.case(|case| Call::new("simplify", false, &stairs).write(case));
     let triangles = shapes::triangles(&mut random, 4096);
     cases.case(|case| Call::new("limit_penalties", false, &triangles).write(case));
-    let stroll = reduce::shapes::stroll(&mut random, 4096);
-    cases.case(|case| Call::new("simplify", true, &stroll).write(case));
+    let strolled = stroll(&mut random, 4096);
+    cases.case(|case| Call::new("simplify", true, &strolled).write(case));
     // Nothing goes in the first pass: all 4,096 points stand between the two.
     let to_and_fro: Vec<i32> = (0..4096).flat_map(|i| [i % 2 * 2, 0]).collect();
-    let call = Call::new("remove_staircase", true, &to_and_fro);
-    cases.case(|case| call.write(case));
+    cases.case(|case| Call::new("remove_staircase", true, &to_and_fro).write(case));
     let spread: Vec<i32> = (0..4096).flat_map(|i| [i % 2 * 9, i % 3 * 9]).collect();
     cases.case(|case| Call::new("simplify", true, &spread).write(case));
     for name in CALLS {

@@ -1,7 +1,7 @@
 //! The fixed list of the crate `walker`.
 
 use super::make::{anywhere, at, brisk_start, count_of, put_edge, small, state, Walk, SMALL};
-use super::put_state;
+use super::{ends_soon, put_state};
 use crate::chart::{draw, first_start, Chart};
 use crate::random::Random;
 use crate::text::Cases;
@@ -24,12 +24,19 @@ fn with_room(cases: &mut Cases, mut walk: Walk) {
     cases.case(|case| walk.write(case));
 }
 
-/// All walks on charts of up to 2 by 2 cells, and every 101st of those up to 3 by 3.
+/// All walks on charts of up to 2 by 2 cells, and every 101st of those up to 3 by 3; of the walks that
+/// take their million steps one in sixteen.
 fn fixed_small(cases: &mut Cases) {
     let all: u64 = SMALL.iter().map(|&(width, height)| count_of(width, height)).sum();
     let whole: u64 = SMALL[..4].iter().map(|&(width, height)| count_of(width, height)).sum();
+    let mut long = 0;
     for place in (0..whole).chain((whole..all).step_by(101)) {
-        with_room(cases, small(place).expect("a small walk"));
+        let walk = small(place).expect("a small walk");
+        let soon = ends_soon(&walk.chart.image(), walk.start, walk.clockwise);
+        long += usize::from(!soon);
+        if soon || long % 16 == 0 {
+            with_room(cases, walk);
+        }
     }
 }
 

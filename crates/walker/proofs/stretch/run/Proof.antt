@@ -2,7 +2,7 @@
 -- steps, and no run has so many. Assumes nothing.
 use Prim.Native.Nat.{_+_, _-_}
 use borrow.Author.Needs.{needs}
-use Rattle.walker.proofs.Running.{Running, begins, ended, fits-x, fits-y, fits-steps, around-small, less, again}
+use Rattle.walks.proofs.Running.{Running, begins, ended, fits-x, fits-y, fits-steps, around-small, less, again}
 use Rattle.walker.proofs.stretch.run.Statement.{statement}
 use Rattle.walker.proofs.stretch.run.Tie as tie
 

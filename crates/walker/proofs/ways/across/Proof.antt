@@ -1,6 +1,6 @@
 -- `walker::across` meets its contract. Assumes nothing.
 use borrow.Author.Needs.{needs}
-use Rattle.walker.proofs.Words.{across-right, across-left, across-not}
+use Rattle.walks.proofs.Words.{across-right, across-left, across-not}
 use Rattle.walker.proofs.ways.across.Statement.{statement}
 use Rattle.walker.proofs.ways.across.Tie as tie
 

@@ -1,6 +1,6 @@
 -- `walker::downward` meets its contract. Assumes nothing.
 use borrow.Author.Needs.{needs}
-use Rattle.walker.proofs.Words.{downward-down, downward-up, downward-not}
+use Rattle.walks.proofs.Words.{downward-down, downward-up, downward-not}
 use Rattle.walker.proofs.ways.downward.Statement.{statement}
 use Rattle.walker.proofs.ways.downward.Tie as tie
 

@@ -1,6 +1,6 @@
 -- `walker::exits_after` meets its contract. Assumes nothing.
 use borrow.Author.Needs.{needs}
-use Rattle.walker.proofs.Words.{rightAfter, exits-after, exits-after-left}
+use Rattle.walks.proofs.Words.{rightAfter, exits-after, exits-after-left}
 use Rattle.walker.proofs.ways.exits_after.Statement.{statement}
 use Rattle.walker.proofs.ways.exits_after.Tie as tie
 

@@ -1,6 +1,6 @@
 -- `walker::first_exit` meets its contract. Assumes nothing.
 use borrow.Author.Needs.{needs}
-use Rattle.walker.proofs.Words.{first-of}
+use Rattle.walks.proofs.Words.{first-of}
 use Rattle.walker.proofs.ways.first_exit.Statement.{statement}
 use Rattle.walker.proofs.ways.first_exit.Tie as tie
 

@@ -1,6 +1,6 @@
 -- `walker::first_exits` meets its contract. Assumes nothing.
 use borrow.Author.Needs.{needs}
-use Rattle.walker.proofs.Words.{rightFirst, first-exits}
+use Rattle.walks.proofs.Words.{rightFirst, first-exits}
 use Rattle.walker.proofs.ways.first_exits.Statement.{statement}
 use Rattle.walker.proofs.ways.first_exits.Tie as tie
 

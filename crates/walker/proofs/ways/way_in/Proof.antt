@@ -1,7 +1,7 @@
 -- `walker::way_in` meets its contract. Assumes nothing.
 use borrow.Author.Needs.{needs}
-use Rattle.walker.proofs.Outcome.{way-by-bits}
-use Rattle.walker.proofs.Running.{around-small}
+use Rattle.walks.proofs.Outcome.{way-by-bits}
+use Rattle.walks.proofs.Running.{around-small}
 use Rattle.walker.proofs.ways.way_in.Statement.{statement}
 use Rattle.walker.proofs.ways.way_in.Tie as tie
 

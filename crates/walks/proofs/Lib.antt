@@ -1,0 +1,15 @@
+pub mod Tests
+pub mod Lattice
+pub mod Exits
+pub mod Came
+pub mod Edges
+pub mod Runs
+pub mod Follow
+pub mod Rest
+pub mod Words
+pub mod Running
+pub mod Same
+pub mod Counting
+pub mod Writing
+pub mod Outcome
+pub mod Claims
