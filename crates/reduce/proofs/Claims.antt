@@ -1,6 +1,7 @@
--- What follows of the contracts, for their readers and their callers. `Zooms` has what the numbers decide. Assumes nothing.
+-- What follows of the contracts, for their readers and their callers; of `numbers` and `zoom` it is said in the crate `zooms`, and passed on
+-- here. Assumes nothing.
 use Prim.Native.Nat.{ℕ, _*_, _≤_}
-use mathlib.Core.Bool.{Bool, true, false, not, _||_}
+use mathlib.Core.Bool.{Bool, true, false, _||_}
 use mathlib.Core.List.{List}
 use mathlib.Core.Option.{Option, some, none}
 use mathlib.Core.Path.{_≡_, refl, sym, ap, ap₂, _∙_}
@@ -9,28 +10,29 @@ use lib.Dec.{ltb, eqb}
 use lib.Ieee.{Float, binary64, ofBits, mul}
 use lib.IntN.{ℤ}
 use lib.ListN.{length}
-use borrow.Author.Tests.{ltb-false}
 use denote.Ref.{now}
 use Rattle.laws.specs.Joined.{both-false}
 use Rattle.point.specs.Limits.{tooMany, badPoints, badTolerance, badSqTolerance, placesFor}
 use Rattle.point.specs.Points.{flat, points}
-use Rattle.point.specs.Refusals.{refuse_when_or_, countOf}
+use Rattle.point.specs.Refusals.{countOf}
 use Rattle.point.specs.declared.Answer.the-variants.{Refused}
 use Rattle.point.specs.declared.PointI32.{PointI32}
 use Rattle.point.specs.declared.Refusal.{Refusal}
-use Rattle.split.specs.Tree.{count, marksOf}
+use Rattle.outline.specs.Points.{count}
+use Rattle.outline.proofs.Flat.{length-points, count-flat}
+use Rattle.outline.proofs.Room.{places-enough, places-shorter}
+use Rattle.split.specs.Tree.{marksOf}
+use Rattle.zooms.specs.Calls.{Points, shortFor}
+use Rattle.zooms.specs.Kept.{kept}
+use Rattle.zooms.proofs.Claims.{next, places, marks-fit}
+pub use Rattle.zooms.proofs.Claims.{numbers-determined, zoom-determined, numbers-unchanged, zoom-unchanged, numbers-fit, zoom-fits}
 use Rattle.reduce.specs.Radial.{radial}
-use Rattle.reduce.specs.Calls.{Points, Marked, Reduced, Numbered, shortFor, kept, marksBy, radialRefusal, radialOutcome, radialOf, splitRefusal, splitOutcome, douglasPeuckerOf, reduceRefusal, reduceOutcome, reduceOf, numbersRefusal, numbersOutcome, numberedOf, zoomRefusal, zoomOutcome, zoomOf}
+use Rattle.reduce.specs.Calls.{Marked, Reduced, radialRefusal, radialOutcome, radialOf, splitRefusal, splitOutcome, douglasPeuckerOf, reduceRefusal, reduceOutcome, reduceOf}
 use Rattle.reduce.proofs.Far.{radial-shorter}
-use Rattle.reduce.proofs.Flat.{length-points, count-flat}
 use Rattle.reduce.proofs.Lines.{inWhole, many-points, answers-whole, answers-narrowed}
-use Rattle.reduce.proofs.Room.{places-enough, places-shorter}
-use Rattle.reduce.proofs.Select.{kept-fits}
 use Rattle.reduce.proofs.radial.simplify_radial_dist.Reads.{Post as Radial}
 use Rattle.reduce.proofs.dp.simplify_douglas_peucker.Reads.{Post as Douglas-peucker}
 use Rattle.reduce.proofs.narrow.reduce.Reads.{Post as Reduce}
-use Rattle.reduce.proofs.dp.numbers.Reads.{Post as Numbers}
-use Rattle.reduce.proofs.zooming.zoom.Reads.{Post as Zoom}
 
 -- ---- each contract leaves no choice: of equal arguments it allows one answer, and one last content of every buffer. `Post` is the contract
 -- itself, as Rattle reads it off the source, at arguments `a`, a result `r` and parameters at exit `s`.
@@ -63,20 +65,6 @@ reduce-determined κs a a′ r r′ s s′ p q list tolerance out scratch marks 
     ∙ ap (reduceOf (now (a′ .0)) (a′ .1 .0) (now (a′ .1 .1 .0)) (now (a′ .1 .1 .1 .0))) marks
     ∙ sym q
 
-pub numbers-determined : (κs : _) (a a′ : _) (r r′ : _) (s s′ : _) → Numbers κs a r s → Numbers κs a′ r′ s′ →
-    now (a .0) ≡ now (a′ .0) → now (a .1 .0) ≡ now (a′ .1 .0) →
-    _≡_ {A = Numbered} (record { answer = r; out = now (s .1 .0) }) (record { answer = r′; out = now (s′ .1 .0) })
-numbers-determined κs a a′ r r′ s s′ p q list out = p ∙ ap₂ numberedOf list out ∙ sym q
-
-pub zoom-determined : (κs : _) (a a′ : _) (r r′ : _) (s s′ : _) → Zoom κs a r s → Zoom κs a′ r′ s′ →
-    now (a .0) ≡ now (a′ .0) → now (a .1 .0) ≡ now (a′ .1 .0) → a .1 .1 .0 ≡ a′ .1 .1 .0 → now (a .1 .1 .1 .0) ≡ now (a′ .1 .1 .1 .0) →
-    _≡_ {A = Points} (record { answer = r; out = now (s .1 .1 .1 .0) }) (record { answer = r′; out = now (s′ .1 .1 .1 .0) })
-zoom-determined κs a a′ r r′ s s′ p q list numbers tolerance out =
-    p
-    ∙ ap₂ (λ (l : List ℤ) (v : List Float). zoomOf l v (a .1 .1 .0) (now (a .1 .1 .1 .0))) list numbers
-    ∙ ap₂ (zoomOf (now (a′ .0)) (now (a′ .1 .0))) tolerance out
-    ∙ sym q
-
 -- ---- a refusal changes no buffer
 
 pub radial-unchanged : (list : List ℤ) (tolerance : Float) (out : List ℤ) (r : Refusal) → radialOf list tolerance out .answer ≡ Refused r →
@@ -97,23 +85,6 @@ douglas-peucker-unchanged list tolerance out marks r = by (splitRefusal list tol
     by : (o : Option Refusal) → splitOutcome o list tolerance out marks .answer ≡ Refused r →
         (splitOutcome o list tolerance out marks .out ≡ out) × (splitOutcome o list tolerance out marks .marks ≡ marks)
     by (some q) e = (refl, refl)
-    by none e = let z : _≡_ {A = ℕ} 0 1 = cc in absurd (omega arith)
-
-pub numbers-unchanged : (list : List ℤ) (out : List Float) (r : Refusal) → numberedOf list out .answer ≡ Refused r → numberedOf list out .out ≡ out
-unfolding numberedOf
-numbers-unchanged list out r = by (numbersRefusal list out)
-  where
-    by : (o : Option Refusal) → numbersOutcome o list out .answer ≡ Refused r → numbersOutcome o list out .out ≡ out
-    by (some q) e = refl
-    by none e = let z : _≡_ {A = ℕ} 0 1 = cc in absurd (omega arith)
-
-pub zoom-unchanged : (list : List ℤ) (numbers : List Float) (tolerance : Float) (out : List ℤ) (r : Refusal) →
-    zoomOf list numbers tolerance out .answer ≡ Refused r → zoomOf list numbers tolerance out .out ≡ out
-unfolding zoomOf
-zoom-unchanged list numbers tolerance out r = by (zoomRefusal list numbers tolerance out)
-  where
-    by : (o : Option Refusal) → zoomOutcome o list numbers tolerance out .answer ≡ Refused r → zoomOutcome o list numbers tolerance out .out ≡ out
-    by (some q) e = refl
     by none e = let z : _≡_ {A = ℕ} 0 1 = cc in absurd (omega arith)
 
 pub reduce-unchanged : (list : List ℤ) (tolerance : Float) (out scratch : List ℤ) (marks : List ℕ) (r : Refusal) →
@@ -141,18 +112,6 @@ reduce-unchanged list tolerance out scratch marks r = by (reduceRefusal list tol
 
 -- ---- what an answer counts has its place in the buffer
 
--- a test that is passed, and those after it
-next : (r : Refusal) (t : Bool) (rest : Option Refusal) → (refuse r when t or rest) ≡ none → (t ≡ false) × (rest ≡ none)
-next r true rest e = let z : _≡_ {A = ℕ} 0 1 = cc in absurd (omega arith)
-next r false rest e = (refl, e)
-
-places : (n m : ℕ) (out : List ℤ) → shortFor n out ≡ false → m ≤ placesFor n → m * 2 ≤ length out
-places n m out e h = omega (arith, ltb-false (length out) (placesFor n * 2) e)
-
--- marks keep no more points of a list than there are places for
-marks-fit : (marks : List ℕ) (list : List ℤ) → length (kept marks (points list)) ≤ placesFor (count list)
-marks-fit marks list = rw (length-points list) at (kept-fits marks (points list))
-
 pub radial-fits : (list : List ℤ) (tolerance : Float) (out : List ℤ) → countOf (radialOf list tolerance out .answer) * 2 ≤ length out
 unfolding radialOf
 radial-fits list tolerance out = by (radialRefusal list tolerance out) refl
@@ -178,29 +137,6 @@ douglas-peucker-fits list tolerance out marks = by (splitRefusal list tolerance 
         let room = next _ (shortFor (count list) out || ltb (length marks) (count list)) _ fine .0 in
         places (count list) (length (kept (marksOf tolerance list) (points list))) out
         (both-false (shortFor (count list) out) (ltb (length marks) (count list)) room .0) (marks-fit (marksOf tolerance list) list)
-
-pub zoom-fits : (list : List ℤ) (numbers : List Float) (tolerance : Float) (out : List ℤ) → countOf (zoomOf list numbers tolerance out .answer) * 2 ≤ length out
-unfolding zoomOf
-zoom-fits list numbers tolerance out = by (zoomRefusal list numbers tolerance out) refl
-  where
-    by : (o : Option Refusal) → zoomRefusal list numbers tolerance out ≡ o → countOf (zoomOutcome o list numbers tolerance out .answer) * 2 ≤ length out
-    by (some q) e = omega arith
-    by none e =
-        let good = next _ (badPoints list || not (eqb (length numbers) (count list))) _ (next _ (tooMany (length list)) _ e .1) .1 in
-        let fine = next _ (badSqTolerance tolerance) _ (next _ (eqb (count list) 0) _ good .1) .1 in
-        places (count list) (length (kept (marksBy tolerance numbers) (points list))) out (next _ (shortFor (count list) out) _ fine .0)
-        (marks-fit (marksBy tolerance numbers) list)
-
-pub numbers-fit : (list : List ℤ) (out : List Float) → countOf (numberedOf list out .answer) ≤ length out
-unfolding numberedOf
-numbers-fit list out = by (numbersRefusal list out) refl
-  where
-    by : (o : Option Refusal) → numbersRefusal list out ≡ o → countOf (numbersOutcome o list out .answer) ≤ length out
-    by (some q) e = omega arith
-    by none e =
-        let good = next _ (badPoints list) _ (next _ (tooMany (length list)) _ e .1) .1 in
-        let room = next _ (ltb (length out) (placesFor (count list))) _ (next _ (eqb (count list) 0) _ good .1) .0 in
-        omega (arith, ltb-false (length out) (placesFor (count list)) room, places-enough (count list))
 
 pub reduce-fits : (list : List ℤ) (tolerance : Float) (out scratch : List ℤ) (marks : List ℕ) →
     countOf (reduceOf list tolerance out scratch marks .answer) * 2 ≤ length out

@@ -1,9 +1,4 @@
-pub mod Flat
-pub mod Written
 pub mod Far
-pub mod Room
-pub mod Select
 pub mod Marks
 pub mod Lines
-pub mod Zooms
 pub mod Claims

@@ -9,7 +9,7 @@ use lib.Ieee.{Float, binary64, ofInt, eq}
 use lib.IntN.{ℤ, pos}
 use borrow.Author.Tests.{leb-false}
 use Rattle.laws.specs.Joined.{both-false}
-use Rattle.split.specs.Tree.{count}
+use Rattle.outline.specs.Points.{count}
 use Rattle.reduce.specs.Calls.{whole, narrowed, reduceOutcome}
 
 -- a list is answered whole

@@ -1,36 +1,26 @@
--- What the crate `split` writes, a mark or a number for each point, is laid over the start of the buffer; and marks past the last point
--- select nothing. Assumes nothing.
-use Prim.Native.Nat.{ℕ, _+_, _-_, _<_, _≤_}
+-- The points that marks select, one after the other; marks past the last point select nothing. Assumes nothing.
+use Prim.Native.Nat.{ℕ, suc, _+_, _<_, _≤_}
 use mathlib.Core.Bool.{Bool, true, false}
 use mathlib.Core.List.{List, [], _∷_, _++_}
 use mathlib.Core.Path.{_≡_, refl}
+use native.Mathlib.Numerals.{add-one}
 use native.Mathlib.Omega.{arith}
 use lib.Dec.{eqb}
-use lib.Ieee.{Float}
-use lib.IntN.{ℤ}
-use lib.ListN.{length, drop}
-use borrow.Author.Tests.{ne-eqb, le-ltb}
+use lib.ListN.{length, drop, getD}
+use lib.Seq.{drop-cons}
+use borrow.Author.Tests.{eq-eqb, ne-eqb}
 use Rattle.laws.specs.Lists.{over}
 use Rattle.point.specs.declared.PointI32.{PointI32}
-use Rattle.split.specs.Tree.{count, marksOf, numbersOf}
-use Rattle.split.specs.Marks.{laid, markedOf, numberedOf}
-use Rattle.split.proofs.Claims.{a-mark-for-each-point, a-number-for-each-point}
-use Rattle.reduce.specs.Calls.{select, kept}
-use Rattle.reduce.proofs.Select.{selected, unselected, no-points}
+use Rattle.zooms.specs.Kept.{select, kept}
+use Rattle.zooms.proofs.Select.{selected, unselected, no-points}
 
--- ---- laid over the start of the buffer
+module _ (marks : List ℕ) (ps : List PointI32) (k : ℕ) (d : PointI32) where
+  module _ (h : k < length marks) (i : k < length ps) where
+    pub marked : (getD marks k 0 ≡ 0 → ⊥) → select (drop k marks) (drop k ps) ≡ getD ps k d ∷ select (drop (k + 1) marks) (drop (k + 1) ps)
+    marked n = rw (add-one, drop-cons marks k 0 h, drop-cons ps k d i) (selected (getD marks k 0) (drop (suc k) marks) (getD ps k d) (drop (suc k) ps) (ne-eqb _ _ n))
 
-laid-over : {A : Type 0} (list : List ℤ) (new old : List A) → length new ≡ count list → 0 < count list → count list ≤ length old → laid list new old ≡ over new old
-unfolding over
-laid-over list new old e h l = rw (ne-eqb (count list) 0 (λ z. omega arith), le-ltb (length old) (count list) l, e)
-
-pub marked-over : (t : Float) (list : List ℤ) (marks : List ℕ) → 0 < count list → count list ≤ length marks → markedOf list t marks ≡ over (marksOf t list) marks
-unfolding markedOf
-marked-over t list marks h l = laid-over list (marksOf t list) marks (a-mark-for-each-point list t h) h l
-
-pub numbered-over : (list : List ℤ) (out : List Float) → 0 < count list → count list ≤ length out → numberedOf list out ≡ over (numbersOf list) out
-unfolding numberedOf
-numbered-over list out h l = laid-over list (numbersOf list) out (a-number-for-each-point list h) h l
+    pub unmarked : getD marks k 0 ≡ 0 → select (drop k marks) (drop k ps) ≡ select (drop (k + 1) marks) (drop (k + 1) ps)
+    unmarked e = rw (add-one, drop-cons marks k 0 h, drop-cons ps k d i) (unselected (getD marks k 0) (drop (suc k) marks) (getD ps k d) (drop (suc k) ps) (eq-eqb _ _ e))
 
 -- ---- marks past the last point
 

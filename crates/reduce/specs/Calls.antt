@@ -1,37 +1,30 @@
 -- What each call answers, and what every buffer lent to it then holds. A list is laid `over` the start of a buffer: "places past the
--- answer hold theirs".
+-- answer hold theirs". What `numbers` and `zoom` answer is said in the crate `zooms`, and passed on here.
 use Prim.Native.Nat.{ℕ, _*_}
-use mathlib.Core.Bool.{Bool, true, false, not, _||_}
-use mathlib.Core.List.{List, [], _∷_}
+use mathlib.Core.Bool.{true, false, _||_}
+use mathlib.Core.List.{List}
 use mathlib.Core.Option.{Option, some, none}
 use lib.Dec.{ltb, leb, eqb}
 use lib.IntN.{ℤ, pos}
-use lib.Ieee.{Float, binary64, ofInt, ofBits, mul, lt, eq}
+use lib.Ieee.{Float, binary64, ofInt, ofBits, mul, eq}
 use lib.ListN.{length}
 use Rattle.laws.specs.Lists.{over}
-use Rattle.point.specs.Limits.{tooMany, badPoints, badTolerance, badSqTolerance, placesFor}
+use Rattle.point.specs.Limits.{tooMany, badPoints, badTolerance, badSqTolerance}
 use Rattle.point.specs.Points.{flat, points}
-use Rattle.point.specs.Refusals.{if_then_else_, refuse_when_or_}
-use Rattle.point.specs.declared.PointI32.{PointI32}
+use Rattle.point.specs.Refusals.{refuse_when_or_}
 use Rattle.point.specs.declared.Answer.{Answer}
 use Rattle.point.specs.declared.Answer.the-variants.{Done, Refused}
 use Rattle.point.specs.declared.Refusal.{Refusal}
 use Rattle.point.specs.declared.Refusal.the-variants.{TooMany, BadPoint, TooFew, BadTolerance, NoRoom}
-use Rattle.split.specs.Tree.{count, mark, marksOf, numbersOf}
+use Rattle.outline.specs.Points.{count}
+use Rattle.split.specs.Tree.{marksOf}
+use Rattle.zooms.specs.Calls.{shortFor, handed}
+use Rattle.zooms.specs.Kept.{kept}
+pub use Rattle.zooms.specs.Calls.{Points, Numbered}
+unfoldable pub use Rattle.zooms.specs.Calls.{numberedOf, zoomOf}
 use Rattle.reduce.specs.Radial.{radial}
 
--- the buffer is too small for so many points
-abbrev pub shortFor : ℕ → List ℤ → Bool
-shortFor n out = ltb (length out) (placesFor n * 2)
-
 -- ---- simplify_radial_dist
-
-pub record Points : Type 0 where
-  pub answer : Answer
-  pub out : List ℤ
-
-abbrev pub handed : List PointI32 → List ℤ → Points
-handed ps out = record { answer = Done (length ps); out = over (flat ps) out }
 
 abbrev pub radialRefusal : List ℤ → Float → List ℤ → Option Refusal
 radialRefusal list tolerance out =
@@ -56,19 +49,6 @@ pub record Marked : Type 0 where
   pub answer : Answer
   pub out : List ℤ
   pub marks : List ℕ
-
--- the points whose mark is not 0
-unfoldable pub select : List ℕ → List PointI32 → List PointI32
-select [] ps = []
-select (m ∷ marks) [] = []
-select (m ∷ marks) (p ∷ ps) = elim (eqb m 0) [ true ↦ select marks ps | false ↦ p ∷ select marks ps ]
-
--- the points of a list that Douglas-Peucker keeps: "of one point gives it twice"
-unfoldable pub kept : List ℕ → List PointI32 → List PointI32
-unfolding select
-kept marks [] = []
-kept marks (p ∷ []) = p ∷ p ∷ []
-kept marks (p ∷ q ∷ ps) = select marks (p ∷ q ∷ ps)
 
 abbrev pub splitRefusal : List ℤ → Float → List ℤ → List ℕ → Option Refusal
 splitRefusal list tolerance out marks =
@@ -133,58 +113,3 @@ reduceOutcome none list tolerance out scratch marks = elim (leb (count list) 2 |
 unfoldable pub reduceOf : List ℤ → Float → List ℤ → List ℤ → List ℕ → Reduced
 unfolding reduceOutcome
 reduceOf list tolerance out scratch marks = reduceOutcome (reduceRefusal list tolerance out scratch marks) list tolerance out scratch marks
-
--- ---- numbers
-
-pub record Numbered : Type 0 where
-  pub answer : Answer
-  pub out : List Float
-
-abbrev pub numbersRefusal : List ℤ → List Float → Option Refusal
-numbersRefusal list out =
-    refuse TooMany when tooMany (length list) or
-    refuse BadPoint when badPoints list or
-    refuse TooFew when eqb (count list) 0 or
-    refuse NoRoom when ltb (length out) (placesFor (count list)) or
-    none
-
-unfoldable pub numbersOutcome : Option Refusal → List ℤ → List Float → Numbered
-unfolding numbersOf over
-numbersOutcome (some r) list out = record { answer = Refused r; out = out }
-numbersOutcome none list out = record { answer = Done (count list); out = over (numbersOf list) out }
-
-unfoldable pub numberedOf : List ℤ → List Float → Numbered
-unfolding numbersOutcome
-numberedOf list out = numbersOutcome (numbersRefusal list out) list out
-
--- ---- zoom
-
--- "a list of numbers that has not one for each point is BadPoint"
-abbrev pub zoomRefusal : List ℤ → List Float → Float → List ℤ → Option Refusal
-zoomRefusal list numbers tolerance out =
-    refuse TooMany when tooMany (length list) or
-    refuse BadPoint when badPoints list || not (eqb (length numbers) (count list)) or
-    refuse TooFew when eqb (count list) 0 or
-    refuse BadTolerance when badSqTolerance tolerance or
-    refuse NoRoom when shortFor (count list) out or
-    none
-
--- the marks by the numbers: both ends are kept, and between them each point whose number is greater than the tolerance
-unfoldable pub marksAfter : Float → List Float → List ℕ
-marksAfter tolerance [] = []
-marksAfter tolerance (v ∷ []) = 1 ∷ []
-marksAfter tolerance (v ∷ w ∷ vs) = mark (lt tolerance v) ∷ marksAfter tolerance (w ∷ vs)
-
-unfoldable pub marksBy : Float → List Float → List ℕ
-unfolding marksAfter
-marksBy tolerance [] = []
-marksBy tolerance (v ∷ vs) = 1 ∷ marksAfter tolerance vs
-
-unfoldable pub zoomOutcome : Option Refusal → List ℤ → List Float → Float → List ℤ → Points
-unfolding kept marksBy flat points over
-zoomOutcome (some r) list numbers tolerance out = record { answer = Refused r; out = out }
-zoomOutcome none list numbers tolerance out = handed (kept (marksBy tolerance numbers) (points list)) out
-
-unfoldable pub zoomOf : List ℤ → List Float → Float → List ℤ → Points
-unfolding zoomOutcome
-zoomOf list numbers tolerance out = zoomOutcome (zoomRefusal list numbers tolerance out) list numbers tolerance out

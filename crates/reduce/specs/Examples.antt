@@ -1,15 +1,14 @@
 -- Worked examples of document 01: antt computes each, so `refl` proves it.
-use mathlib.Core.Bool.{false}
 use mathlib.Core.List.{[], _∷_}
 use mathlib.Core.Path.{_≡_, refl}
 use lib.IntN.{pos}
-use lib.Ieee.{nan, inf, binary64, ofInt, ofBits, add, sub, mul, div, lt, ne, eq, le}
+use lib.Ieee.{nan, binary64, ofInt, ofBits, add, sub, mul, div, lt, ne, eq, le}
 use Rattle.point.specs.Limits.{badList}
 use Rattle.point.specs.declared.Answer.the-variants.{Done, Refused}
-use Rattle.point.specs.declared.Refusal.the-variants.{BadPoint, TooFew, BadTolerance, NoRoom}
+use Rattle.point.specs.declared.Refusal.the-variants.{BadPoint, TooFew, BadTolerance}
 use Rattle.split.specs.Distance.{sqSegDist}
 use Rattle.reduce.specs.Distance.{sqDist}
-use Rattle.reduce.specs.Calls.{radialOf, douglasPeuckerOf, reduceOf, numberedOf, zoomOf}
+use Rattle.reduce.specs.Calls.{radialOf, douglasPeuckerOf, reduceOf}
 
 -- P7 and P8: radial (0,0) (3,4) (6,8) at 25 drops the middle, at 24 keeps it
 radial-at-25 : radialOf (pos 0 ∷ pos 0 ∷ pos 3 ∷ pos 4 ∷ pos 6 ∷ pos 8 ∷ []) (ofInt binary64 (pos 25)) (pos 9 ∷ pos 9 ∷ pos 9 ∷ pos 9 ∷ pos 9 ∷ pos 9 ∷ [])
@@ -35,16 +34,11 @@ pixel-at-3 : reduceOf (pos 0 ∷ pos 0 ∷ pos 1 ∷ pos 0 ∷ pos 1 ∷ pos 1 �
 unfolding reduceOf badList sqDist sqSegDist ofInt ofBits add sub mul div lt ne eq le
 pixel-at-3 = refl
 
--- "Douglas-Peucker of one point gives it twice", and its mark is one 1; a zoom gives it twice too, and the radial pass and `reduce` once
+-- "Douglas-Peucker of one point gives it twice", and its mark is one 1; the radial pass and `reduce` give it once
 one-split : douglasPeuckerOf (pos 7 ∷ pos 8 ∷ []) (ofInt binary64 (pos 0)) (pos 9 ∷ pos 9 ∷ pos 9 ∷ pos 9 ∷ []) (5 ∷ 5 ∷ [])
     ≡ record { answer = Done 2; out = pos 7 ∷ pos 8 ∷ pos 7 ∷ pos 8 ∷ []; marks = 1 ∷ 5 ∷ [] }
 unfolding douglasPeuckerOf badList ofInt le
 one-split = refl
-
-one-zoomed : zoomOf (pos 7 ∷ pos 8 ∷ []) (inf false ∷ []) (ofInt binary64 (pos 0)) (pos 9 ∷ pos 9 ∷ pos 9 ∷ pos 9 ∷ [])
-    ≡ record { answer = Done 2; out = pos 7 ∷ pos 8 ∷ pos 7 ∷ pos 8 ∷ [] }
-unfolding zoomOf badList ofInt le
-one-zoomed = refl
 
 one-radial : radialOf (pos 7 ∷ pos 8 ∷ []) (ofInt binary64 (pos 0)) (pos 9 ∷ pos 9 ∷ pos 9 ∷ pos 9 ∷ [])
     ≡ record { answer = Done 1; out = pos 7 ∷ pos 8 ∷ pos 9 ∷ pos 9 ∷ [] }
@@ -55,15 +49,6 @@ one-reduced : reduceOf (pos 7 ∷ pos 8 ∷ []) (ofInt binary64 (pos 3)) (pos 9 
     ≡ record { answer = Done 1; out = pos 7 ∷ pos 8 ∷ pos 9 ∷ pos 9 ∷ []; scratch = pos 6 ∷ pos 6 ∷ []; marks = 5 ∷ [] }
 unfolding reduceOf badList ofInt le
 one-reduced = refl
-
--- its number is +infinity; "2 places where n is 1"
-one-numbered : numberedOf (pos 7 ∷ pos 8 ∷ []) (nan ∷ nan ∷ []) ≡ record { answer = Done 1; out = inf false ∷ nan ∷ [] }
-unfolding numberedOf badList
-one-numbered = refl
-
-one-place : numberedOf (pos 7 ∷ pos 8 ∷ []) (nan ∷ []) ≡ record { answer = Refused NoRoom; out = nan ∷ [] }
-unfolding numberedOf badList
-one-place = refl
 
 -- "The lowest that applies is given": half a point before no tolerance and no room; no points before no tolerance; no tolerance before no room
 half-a-point : douglasPeuckerOf (pos 7 ∷ []) nan [] [] ≡ record { answer = Refused BadPoint; out = []; marks = [] }

@@ -6,7 +6,7 @@ use mathlib.Core.Path.{_≡_}
 use lib.IntN.{ℤ}
 use lib.ListN.{length}
 use Rattle.point.specs.Limits.{badPoints, placesFor}
-use Rattle.split.specs.Tree.{count}
+use Rattle.outline.specs.Points.{count}
 
 pub record Ready (list out scratch : List ℤ) (marks : List ℕ) : Type 0 where
   pub good : badPoints list ≡ false

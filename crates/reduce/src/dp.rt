@@ -1,15 +1,15 @@
-// Douglas-Peucker and the numbers, over the splits of the crate `split`.
+// Douglas-Peucker, over the splits of the crate `split`.
 ghost use Prim.Native.Nat.{_*_, _≤_};
 ghost use mathlib.Core.Path.{_≡_};
 ghost use lib.ListN.{length};
 ghost use Rattle.point.specs.Limits.{placesFor};
 ghost use Rattle.point.specs.Points.{points as pointsOf};
-ghost use Rattle.split.specs.Tree.{count};
-ghost use Rattle.reduce.specs.Written.{Handed};
-ghost use Rattle.reduce.specs.Calls.{kept, douglasPeuckerOf, numberedOf};
-use crate::lists::point_at;
-use crate::lists::put;
-use crate::lists::twice;
+ghost use Rattle.outline.specs.Points.{count};
+ghost use Rattle.outline.specs.Written.{Handed};
+ghost use Rattle.zooms.specs.Kept.{kept};
+ghost use Rattle.reduce.specs.Calls.{douglasPeuckerOf};
+use outline::point_at;
+use outline::put;
 use point::Answer;
 use point::Refusal;
 
@@ -47,28 +47,6 @@ pub fn simplify_douglas_peucker(
     Answer::Done(keep_marked(points, marks, out))
 }
 
-// Puts the number of each point at the start of `out`: the point is kept at exactly the squared
-// tolerances below it.
-pub fn numbers(points: &[i32], out: &mut [f64]) -> Answer
-    ensures { λ r. ⌜ record { answer = r; out = now (out .exit) } ≡ numberedOf (now (points .entry)) (now (out .entry)) ⌝ }
-{
-    let n = points.len() / 2;
-    if point::too_many(points.len()) {
-        return Answer::Refused(Refusal::TooMany);
-    }
-    if point::bad_points(points) {
-        return Answer::Refused(Refusal::BadPoint);
-    }
-    if n == 0 {
-        return Answer::Refused(Refusal::TooFew);
-    }
-    if out.len() < point::places_for(n) {
-        return Answer::Refused(Refusal::NoRoom);
-    }
-    split::number(points, out);
-    Answer::Done(n)
-}
-
 // Writes the points whose mark is not 0, a single one twice, and answers how many that is.
 pub(crate) fn keep_marked(points: &[i32], marks: &[u8], out: &mut [i32]) -> usize
     requires { ⌜ (count (now points) ≤ length (now marks)) × (placesFor (count (now points)) * 2 ≤ length (now out)) ⌝ }
@@ -76,7 +54,10 @@ pub(crate) fn keep_marked(points: &[i32], marks: &[u8], out: &mut [i32]) -> usiz
 {
     let n = points.len() / 2;
     if n == 1 {
-        return twice(points, out);
+        let p = point_at(points, 0);
+        put(p, 0, out);
+        put(p, 1, out);
+        return 2;
     }
     let mut kept = 0;
     let mut i = 0;

@@ -1,20 +1,19 @@
-// Fewer points for an outline: the radial pass, Douglas-Peucker, both together, and the points of a
-// zoom by their numbers.
+// Fewer points for an outline: the radial pass, Douglas-Peucker, and both together. One number per
+// point, and the points of a zoom by their numbers, are those of the crate `zooms`.
 //
 // Lists of points are x, y, x, y, in lent slices; counts are points. Refusals are judged first, and
 // then nothing can fail.
 //
-// `reduce` takes 96 bytes of stack with its return address and the radial pass 40, helpers inlined
-// (measured on the x86-64 code at -O3); the other calls are not measured yet. Under it, and under Douglas-Peucker and `numbers`,
-// stand the levels of `split`: at most 589,680 bytes to mark 4,096 points, and 655,200 to number them.
+// The radial pass takes 88 bytes of stack, and Douglas-Peucker and `reduce` 589,800 at most, of which
+// 589,680 are the levels of `split` for 4,096 points (measured on the x86-64 code at -O3, with return
+// addresses).
 mod dp;
 mod lists;
 mod narrow;
 mod radial;
-mod zooming;
 
-pub use dp::numbers;
 pub use dp::simplify_douglas_peucker;
 pub use narrow::reduce;
 pub use radial::simplify_radial_dist;
-pub use zooming::zoom;
+pub use zooms::numbers;
+pub use zooms::zoom;

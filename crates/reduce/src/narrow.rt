@@ -12,7 +12,7 @@ ghost use Rattle.point.specs.Points.{points as pointsOf};
 ghost use Rattle.point.specs.Refusals.{if_then_else_};
 ghost use Rattle.point.specs.declared.Answer.the-variants.{Done};
 ghost use Rattle.reduce.specs.Radial.{radial};
-ghost use Rattle.reduce.specs.Written.{Handed};
+ghost use Rattle.outline.specs.Written.{Handed};
 ghost use Rattle.reduce.specs.Ready.{Ready};
 ghost use Rattle.reduce.specs.Calls.{reduceOutcome, reduceOf};
 use crate::dp::keep_marked;

@@ -1,22 +1,21 @@
--- What follows of the contracts, for their readers and their callers. `Nesting` has what follows of the definitions. Assumes nothing.
-use Prim.Native.Nat.{ℕ, zero, suc, _-_, _≤_, _<_}
+-- What follows of the contracts, for their readers and their callers. Assumes nothing.
+use Prim.Native.Nat.{ℕ, _-_, _≤_, _<_}
 use mathlib.Core.Bool.{Bool, true, false}
-use mathlib.Core.List.{List, [], _∷_, _++_}
-use mathlib.Core.Logic.{_⊎_, inl, inr}
+use mathlib.Core.List.{List, [], _∷_}
 use mathlib.Core.Path.{_≡_, refl, sym, ap, ap₂, _∙_}
 use native.Mathlib.Omega.{arith}
-use lib.Dec.{ltb, eqb}
+use lib.Dec.{ltb}
 use lib.IntN.{ℤ}
 use lib.Ieee.{Float, inf}
-use lib.ListN.{length, take, drop, getD, length-append, length-drop}
-use lib.Seq.{take-at, drop-at}
-use borrow.Author.Tests.{ltb-true, ltb-false, eqb-true, eqb-false}
+use lib.ListN.{length, length-append}
+use borrow.Author.Tests.{ltb-true, ltb-false}
 use denote.Ref.{now}
+use Rattle.laws.specs.Lists.{over}
 use Rattle.split.specs.Marks.{laid, markedOf, numberedOf}
 use Rattle.split.specs.Tree.{Tree, count, framed, tree, size, cut, down, marksOf, numbersOf}
-use Rattle.split.proofs.Buffers.{laid-none, laid-no-room, laid-over}
-use Rattle.split.proofs.Cuts.{length-cut, length-down, Bit, cut-bits, all-at}
-use Rattle.split.proofs.Frames.{framed-many, framed-one, framed-all}
+use Rattle.split.proofs.Buffers.{laid-over}
+use Rattle.split.proofs.Cuts.{length-cut, length-down}
+use Rattle.split.proofs.Frames.{framed-many, framed-one}
 use Rattle.split.proofs.Trees.{span-size}
 use Rattle.split.proofs.marking.mark.Reads.{Post as Mark}
 use Rattle.split.proofs.numbering.number.Reads.{Post as Number}
@@ -58,63 +57,17 @@ pub a-number-for-each-point : (points : List ℤ) → 0 < count points → lengt
 unfolding numbersOf
 a-number-for-each-point points h = framed-length points (inf false) (down (inf false)) (length-down (inf false)) h
 
--- a mark is 0 or 1
-pub marks-are-0-or-1 : (points : List ℤ) (t : Float) (k : ℕ) → (getD (marksOf t points) k 0 ≡ 0) ⊎ (getD (marksOf t points) k 0 ≡ 1)
-unfolding marksOf
-marks-are-0-or-1 points t k = all-at Bit (framed points 1 (cut t (tree points))) 0 (framed-all points Bit 1 (cut t (tree points)) (inr refl) (cut-bits t (tree points))) (inl refl) k
-
 -- ---- where they stand: at the start of the buffer if there is a point, and room; the rest is old
 
-module _ {A : Type 0} (points : List ℤ) (new old : List A) (sized : 0 < count points → length new ≡ count points) where
-  laid-length : length (laid points new old) ≡ length old
-  laid-length = go (eqb (count points) 0) (ltb (length old) (count points)) refl refl
-    where
-      go : (b c : Bool) → eqb (count points) 0 ≡ b → ltb (length old) (count points) ≡ c → length (laid points new old) ≡ length old
-      go true c e h = ap length (sym (laid-none points new old (eqb-true (count points) 0 e)))
-      go false true e h = ap length (sym (laid-no-room points new old (eqb-false (count points) 0 e) (ltb-true (length old) (count points) h)))
-      go false false e h =
-          let n = eqb-false (count points) 0 e in
-          let l : count points ≤ length old = ltb-false (length old) (count points) h in
-          ap length (laid-over points new old n l) ∙ simp (length-append, length-drop) (omega (arith, sized (above-zero (count points) n)))
-        where
-          above-zero : (n : ℕ) → (n ≡ 0 → ⊥) → 0 < n
-          above-zero zero h = absurd (h refl)
-          above-zero (suc n) h = omega arith
+laid-at : {A : Type 0} (points : List ℤ) (new old : List A) → (0 < count points → length new ≡ count points) → 0 < count points → count points ≤ length old →
+    laid points new old ≡ over new old
+unfolding over
+laid-at points new old sized some room = laid-over points new old (λ z. omega arith) room ∙ rw (sized some)
 
-  module _ (some : 0 < count points) (room : count points ≤ length old) where
-    over : laid points new old ≡ new ++ drop (count points) old
-    over = laid-over points new old (λ e. omega arith) room
+pub marked-over : (points : List ℤ) (t : Float) (marks : List ℕ) → 0 < count points → count points ≤ length marks → markedOf points t marks ≡ over (marksOf t points) marks
+unfolding markedOf
+marked-over points t marks = laid-at points (marksOf t points) marks (a-mark-for-each-point points t)
 
-    laid-front : take (count points) (laid points new old) ≡ new
-    laid-front = ap (take (count points)) over ∙ take-at new (drop (count points) old) (count points) (sized some)
-
-    laid-rest : drop (count points) (laid points new old) ≡ drop (count points) old
-    laid-rest = ap (drop (count points)) over ∙ drop-at new (drop (count points) old) (count points) (sized some)
-
-module _ (points : List ℤ) (t : Float) (marks : List ℕ) where
-  pub mark-keeps-the-length : length (markedOf points t marks) ≡ length marks
-  unfolding markedOf
-  mark-keeps-the-length = laid-length points (marksOf t points) marks (a-mark-for-each-point points t)
-
-  module _ (some : 0 < count points) (room : count points ≤ length marks) where
-    pub marks-stand-first : take (count points) (markedOf points t marks) ≡ marksOf t points
-    unfolding markedOf
-    marks-stand-first = laid-front points (marksOf t points) marks (a-mark-for-each-point points t) some room
-
-    pub mark-keeps-the-rest : drop (count points) (markedOf points t marks) ≡ drop (count points) marks
-    unfolding markedOf
-    mark-keeps-the-rest = laid-rest points (marksOf t points) marks (a-mark-for-each-point points t) some room
-
-module _ (points : List ℤ) (out : List Float) where
-  pub number-keeps-the-length : length (numberedOf points out) ≡ length out
-  unfolding numberedOf
-  number-keeps-the-length = laid-length points (numbersOf points) out (a-number-for-each-point points)
-
-  module _ (some : 0 < count points) (room : count points ≤ length out) where
-    pub numbers-stand-first : take (count points) (numberedOf points out) ≡ numbersOf points
-    unfolding numberedOf
-    numbers-stand-first = laid-front points (numbersOf points) out (a-number-for-each-point points) some room
-
-    pub number-keeps-the-rest : drop (count points) (numberedOf points out) ≡ drop (count points) out
-    unfolding numberedOf
-    number-keeps-the-rest = laid-rest points (numbersOf points) out (a-number-for-each-point points) some room
+pub numbered-over : (points : List ℤ) (out : List Float) → 0 < count points → count points ≤ length out → numberedOf points out ≡ over (numbersOf points) out
+unfolding numberedOf
+numbered-over points out = laid-at points (numbersOf points) out (a-number-for-each-point points)

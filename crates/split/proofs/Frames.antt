@@ -1,13 +1,10 @@
--- A list between two ends: of two points or more, of one, mapped, and with what holds of all of it. Assumes nothing.
+-- A list between two ends: of two points or more, and of one. Assumes nothing.
 use Prim.Native.Nat.{_≤_, _<_}
-use mathlib.Core.Bool.{Bool, true, false}
-use mathlib.Core.List.{List, [], _∷_, _++_, map, map-append}
-use mathlib.Core.Path.{_≡_, refl, sym, ap, subst, _∙_}
-use lib.Dec.{ltb}
+use mathlib.Core.List.{List, [], _∷_, _++_}
+use mathlib.Core.Path.{_≡_}
 use lib.IntN.{ℤ}
-use borrow.Author.Tests.{ltb-true, ltb-false, lt-ltb, le-ltb}
+use borrow.Author.Tests.{lt-ltb, le-ltb}
 use Rattle.split.specs.Tree.{count, framed}
-use Rattle.split.proofs.Cuts.{AllIn, all-append}
 
 module _ (points : List ℤ) where
   pub framed-many : {A : Type 0} (end : A) (xs : List A) → 1 < count points → framed points end xs ≡ end ∷ (xs ++ (end ∷ []))
@@ -15,21 +12,3 @@ module _ (points : List ℤ) where
 
   pub framed-one : {A : Type 0} (end : A) (xs : List A) → count points ≤ 1 → framed points end xs ≡ end ∷ []
   framed-one end xs h = rw (le-ltb 1 (count points) h)
-
-  pub framed-map : {A B : Type 0} (g : A → B) (end : A) (xs : List A) → map g (framed points end xs) ≡ framed points (g end) (map g xs)
-  framed-map {A} {B} g end xs = go (ltb 1 (count points)) refl
-    where
-      go : (b : Bool) → ltb 1 (count points) ≡ b → map g (framed points end xs) ≡ framed points (g end) (map g xs)
-      go true e =
-          let h : 1 < count points = ltb-true 1 (count points) e in
-          ap (map g) (framed-many end xs h) ∙ ap (λ (l : List B). g end ∷ l) (map-append g xs (end ∷ [])) ∙ sym (framed-many (g end) (map g xs) h)
-      go false e =
-          let h : count points ≤ 1 = ltb-false 1 (count points) e in
-          ap (map g) (framed-one end xs h) ∙ sym (framed-one (g end) (map g xs) h)
-
-  pub framed-all : {A : Type 0} (Q : A → Type 0) (end : A) (xs : List A) → Q end → AllIn Q xs → AllIn Q (framed points end xs)
-  framed-all Q end xs p q = go (ltb 1 (count points)) refl
-    where
-      go : (b : Bool) → ltb 1 (count points) ≡ b → AllIn Q (framed points end xs)
-      go true e = subst (AllIn Q) (sym (framed-many end xs (ltb-true 1 (count points) e))) (unfold AllIn in (p, all-append Q xs (end ∷ []) q (p, tt)))
-      go false e = subst (AllIn Q) (sym (framed-one end xs (ltb-false 1 (count points) e))) (unfold AllIn in (p, tt))

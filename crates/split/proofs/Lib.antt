@@ -1,4 +1,4 @@
--- Laws, leaves first: `Nesting` has the theorems, and `Claims` what callers cite.
+-- Laws, leaves first: `Claims` has what callers cite.
 pub mod Tolerances
 pub mod Distances
 pub mod Farthest
@@ -8,6 +8,4 @@ pub mod Stores
 pub mod Spans
 pub mod Buffers
 pub mod Frames
-pub mod Neighbours
-pub mod Nesting
 pub mod Claims

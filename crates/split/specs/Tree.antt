@@ -1,24 +1,17 @@
 -- Document 01, "Numbers" and "reduce.rs": the tree of splits of a list of points; Douglas-Peucker is that tree cut at a tolerance, and a
 -- point's number is the least distance on the way down to it.
-use Prim.Native.Nat.{ℕ, zero, suc, _+_, _-_, _*_, _/_}
+use Prim.Native.Nat.{ℕ, zero, suc, _+_, _-_}
 use mathlib.Core.Bool.{Bool, true, false}
 use mathlib.Core.List.{List, [], _∷_, _++_}
 use lib.Dec.{ltb}
-use lib.IntN.{ℤ, pos}
+use lib.IntN.{ℤ}
 use lib.Ieee.{Float, inf, lt}
-use lib.ListN.{length, getD, replicate}
+use lib.ListN.{replicate}
 use Rattle.laws.specs.Least.{least}
 use Rattle.point.specs.Refusals.{if_then_else_}
-use Rattle.point.specs.declared.PointI32.{PointI32}
+pub use Rattle.outline.specs.Points.{count, pointAt}
 use Rattle.split.specs.Distance.{sqSegDist}
 use Rattle.split.specs.declared.span.Far.{Far}
-
--- how many points a list has, and the point at a position
-abbrev pub count : List ℤ → ℕ
-count points = length points / 2
-
-abbrev pub pointAt : List ℤ → ℕ → PointI32
-pointAt points k = record { x = getD points (k * 2) (pos 0); y = getD points (k * 2 + 1) (pos 0) }
 
 -- ---- where a span is split
 

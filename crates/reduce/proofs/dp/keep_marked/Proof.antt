@@ -10,13 +10,14 @@ use borrow.Author.Needs.{needs}
 use Rattle.point.specs.Limits.{placesFor}
 use Rattle.point.specs.Points.{points}
 use Rattle.point.specs.declared.PointI32.{PointI32}
-use Rattle.split.specs.Tree.{count, pointAt}
-use Rattle.reduce.specs.Written.{Handed}
-use Rattle.reduce.specs.Calls.{select, kept}
-use Rattle.reduce.proofs.Flat.{length-points, points-at}
-use Rattle.reduce.proofs.Room.{places-enough}
-use Rattle.reduce.proofs.Written.{Left, begun, passed, room, taken, ended}
-use Rattle.reduce.proofs.Select.{select-shorter, no-points, kept-single, kept-many, marked, unmarked}
+use Rattle.outline.specs.Points.{count, pointAt}
+use Rattle.outline.specs.Written.{Handed}
+use Rattle.outline.proofs.Flat.{length-points, points-at}
+use Rattle.outline.proofs.Room.{places-enough}
+use Rattle.outline.proofs.Written.{Left, begun, passed, taken, ended, put-twice}
+use Rattle.zooms.specs.Kept.{select, kept}
+use Rattle.zooms.proofs.Select.{select-shorter, no-points, kept-single, kept-many}
+use Rattle.reduce.proofs.Marks.{marked, unmarked}
 use Rattle.reduce.proofs.dp.keep_marked.Statement.{statement}
 use Rattle.reduce.proofs.dp.keep_marked.Tie as tie
 
@@ -34,11 +35,11 @@ abbrev μ-loop : tie.MeasureT-loop
 μ-loop list marks out₀ n kept₀ i₀ out kept i = count list - i
 
 module _ (list : List ℤ) (marks : List ℕ) where
-  single : count list ≡ 1 → (old : List ℤ) (n : ℕ) (last : List ℤ) → Handed (pointAt list 0 ∷ pointAt list 0 ∷ []) old n last →
-      Handed (whole list marks) old n last
-  single e old n last h =
-      let p = pointAt list 0 in
-      rw (kept-single marks (points list) p (length-points list ∙ e), points-at list 0 p (omega arith)) h
+  -- one point is kept twice
+  single : count list ≡ 1 → (first : PointI32) → first ≡ pointAt list 0 → (old once twice : List ℤ) → placesFor (count list) * 2 ≤ length old →
+      once ≡ set (set old 0 (first .x)) 1 (first .y) → twice ≡ set (set once 2 (first .x)) 3 (first .y) → Handed (whole list marks) old 2 twice
+  single one first e old once twice h f g =
+      rw (kept-single marks (points list) first (length-points list ∙ one), points-at list 0 first (omega arith), ← e) (put-twice first old once twice (rw one at h) f g)
 
   started : (count list ≡ 1 → ⊥) → (old : List ℤ) → placesFor (count list) * 2 ≤ length old → Left (whole list marks) old 0 (rest list marks 0) old
   unfolding rest
@@ -54,9 +55,6 @@ module _ (list : List ℤ) (marks : List ℕ) where
         is-marked =
             marked marks (points list) i (pointAt list i) (omega arith) (rw (length-points list) h) n
             ∙ ap (λ (p : PointI32). p ∷ rest list marks (i + 1)) (points-at list i (pointAt list i) h)
-
-        place : kept * 2 + 1 < length out
-        place = room (passed l is-marked)
 
         kept-one : (p : PointI32) → p ≡ pointAt list i → (now : List ℤ) → now ≡ set (set out (kept * 2) (p .x)) (kept * 2 + 1) (p .y) →
             Left (whole list marks) old (kept + 1) (rest list marks (i + 1)) now
@@ -78,14 +76,16 @@ keep-marked-spec =
     (tie.spec
     Inv-loop
     μ-loop
-    (λ c κs. search needs)  -- twice-requires
+    (λ c κs. tt)  -- point-at-requires
+    (λ c κs. tt)  -- put-requires
+    (λ c κs. tt)  -- put-requires-2
     (λ c. search needs)  -- same-length
     (λ c. search (single, needs))  -- returns
     (λ c. search (started, needs))  -- loop-holds
     (λ c. search needs)  -- add-i
     (λ c. search needs)  -- shared-slice-read-if2
-    (λ c κs. search needs)  -- point-at-requires
-    (λ c κs. search (place, needs))  -- put-requires
+    (λ c κs. tt)  -- point-at-requires-2
+    (λ c κs. tt)  -- put-requires-3
     (λ c. search needs)  -- add-kept
     (λ c. search needs)  -- loop-less
     (λ c. search (kept-one, needs))  -- loop-again

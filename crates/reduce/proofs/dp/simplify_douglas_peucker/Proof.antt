@@ -14,14 +14,17 @@ use Rattle.point.specs.Limits.{tooMany, badPoints, badSqTolerance, placesFor}
 use Rattle.point.specs.Points.{points}
 use Rattle.point.specs.declared.Answer.the-variants.{Done, Refused}
 use Rattle.point.specs.declared.Refusal.the-variants.{TooMany, BadPoint, TooFew, BadTolerance, NoRoom}
-use Rattle.split.specs.Tree.{count, marksOf}
-use Rattle.split.proofs.Claims.{a-mark-for-each-point}
+use Rattle.outline.specs.Points.{count}
+use Rattle.outline.specs.Written.{Handed}
+use Rattle.outline.proofs.Flat.{length-points}
+use Rattle.outline.proofs.Room.{too-short, long-enough, places-fit}
+use Rattle.split.specs.Tree.{marksOf}
 use Rattle.split.specs.Marks.{markedOf}
-use Rattle.reduce.specs.Written.{Handed}
-use Rattle.reduce.specs.Calls.{kept, douglasPeuckerOf}
-use Rattle.reduce.proofs.Flat.{length-points}
-use Rattle.reduce.proofs.Room.{too-short, long-enough, places-fit}
-use Rattle.reduce.proofs.Marks.{marked-over, kept-over}
+use Rattle.split.proofs.Claims.{a-mark-for-each-point}
+use Rattle.split.proofs.Claims.{marked-over}
+use Rattle.zooms.specs.Kept.{kept}
+use Rattle.reduce.specs.Calls.{douglasPeuckerOf}
+use Rattle.reduce.proofs.Marks.{kept-over}
 use Rattle.reduce.proofs.dp.simplify_douglas_peucker.Statement.{statement}
 use Rattle.reduce.proofs.dp.simplify_douglas_peucker.Tie as tie
 
@@ -75,7 +78,7 @@ module _ (list : List ℤ) (tolerance : Float) (out : List ℤ) (marks : List �
                   d .counted,
                   d .written,
                   s,
-                  marked-over tolerance list marks o l,
+                  marked-over list tolerance marks o l,
                   kept-over (marksOf tolerance list) marks (points list) short,
                 )
 

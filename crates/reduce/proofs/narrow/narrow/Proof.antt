@@ -18,17 +18,20 @@ use Rattle.point.specs.Refusals.{if_then_else_}
 use Rattle.point.specs.declared.Answer.the-variants.{Done}
 use Rattle.point.specs.declared.PointI32.{PointI32}
 use Rattle.point.proofs.Claims.{whole-points}
-use Rattle.split.specs.Tree.{count, marksOf}
-use Rattle.split.proofs.Claims.{a-mark-for-each-point}
+use Rattle.outline.specs.Points.{count}
+use Rattle.outline.specs.Written.{Handed}
+use Rattle.outline.proofs.Flat.{length-flat, length-points, count-flat}
+use Rattle.outline.proofs.Room.{places-enough, places-shorter}
+use Rattle.split.specs.Tree.{marksOf}
 use Rattle.split.specs.Marks.{markedOf}
+use Rattle.split.proofs.Claims.{a-mark-for-each-point}
+use Rattle.split.proofs.Claims.{marked-over}
+use Rattle.zooms.specs.Kept.{kept}
 use Rattle.reduce.specs.Radial.{radial}
-use Rattle.reduce.specs.Written.{Handed}
-use Rattle.reduce.specs.Calls.{kept, reduceOutcome}
+use Rattle.reduce.specs.Calls.{reduceOutcome}
 use Rattle.reduce.proofs.Far.{radial-shorter, radial-some}
-use Rattle.reduce.proofs.Flat.{length-flat, length-points, count-flat}
 use Rattle.reduce.proofs.Lines.{inWhole, many-points, answers-whole, answers-narrowed}
-use Rattle.reduce.proofs.Marks.{marked-over, kept-over}
-use Rattle.reduce.proofs.Room.{places-enough, places-shorter}
+use Rattle.reduce.proofs.Marks.{kept-over}
 use Rattle.reduce.proofs.narrow.narrow.Statement.{statement}
 use Rattle.reduce.proofs.narrow.narrow.Tie as tie
 
@@ -131,7 +134,7 @@ module _ (list : List ℤ) (tolerance : Float) (all : Bool) (a : all ≡ (leb (c
         s,
         list-is all list (halved tolerance) scratch n after filled now picked t,
         scratch-is all list (halved tolerance) scratch n after filled now picked t,
-        marked-over sq (flat ps) marks o fits,
+        marked-over (flat ps) sq marks o fits,
         kept-over (marksOf sq (flat ps)) marks (points (flat ps)) short,
       )
 

@@ -14,10 +14,10 @@ use Rattle.laws.specs.Joined.{both-false}
 use Rattle.point.specs.Limits.{tooMany, badPoints, badTolerance, placesFor}
 use Rattle.point.specs.declared.Answer.the-variants.{Done, Refused}
 use Rattle.point.specs.declared.Refusal.the-variants.{TooMany, BadPoint, BadTolerance, NoRoom}
-use Rattle.split.specs.Tree.{count}
+use Rattle.outline.specs.Points.{count}
+use Rattle.outline.proofs.Room.{not-bad}
 use Rattle.reduce.specs.Calls.{reduceOutcome, reduceOf}
 use Rattle.reduce.specs.Ready.{Ready}
-use Rattle.reduce.proofs.Room.{not-bad}
 use Rattle.reduce.proofs.narrow.reduce.Statement.{statement}
 use Rattle.reduce.proofs.narrow.reduce.Tie as tie
 

@@ -5,7 +5,7 @@ use mathlib.Core.Path.{_≡_}
 use lib.Dec.{ltb}
 use borrow.Author.Needs.{needs}
 use Rattle.point.specs.Limits.{placesFor}
-use Rattle.reduce.proofs.Room.{too-short, long-enough}
+use Rattle.outline.proofs.Room.{too-short, long-enough}
 use Rattle.reduce.proofs.narrow.short.Statement.{statement}
 use Rattle.reduce.proofs.narrow.short.Tie as tie
 

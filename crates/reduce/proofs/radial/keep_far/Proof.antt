@@ -14,12 +14,12 @@ use Rattle.point.specs.Limits.{badPoints, inRange}
 use Rattle.point.specs.Points.{flat, points}
 use Rattle.point.specs.declared.PointI32.{PointI32}
 use Rattle.point.proofs.Claims.{whole-points, coordinates-fit}
-use Rattle.split.specs.Tree.{count, pointAt}
+use Rattle.outline.specs.Points.{count, pointAt}
+use Rattle.outline.specs.Written.{onto, Handed}
+use Rattle.outline.proofs.Flat.{length-points, flat-points, points-at}
+use Rattle.outline.proofs.Written.{Left, begun-with, from-before, passed, taken, rest-fits, completed}
 use Rattle.reduce.specs.Distance.{sqDist}
 use Rattle.reduce.specs.Radial.{radial, radialFrom, radialEnd}
-use Rattle.reduce.specs.Written.{onto, Handed}
-use Rattle.reduce.proofs.Flat.{length-points, flat-points, points-at}
-use Rattle.reduce.proofs.Written.{Left, begun-with, from-before, passed, room, taken, rest-fits, completed}
 use Rattle.reduce.proofs.Far.{radial-shorter, radial-whole, radial-first, far, near, none-left}
 use Rattle.reduce.proofs.radial.keep_far.Statement.{statement}
 use Rattle.reduce.proofs.radial.keep_far.Tie as tie
@@ -96,9 +96,6 @@ module _ (list : List ℤ) (tolerance : Float) where
           subst (λ (q : PointI32). lt tolerance (sqDist q prev) ≡ true → rest list tolerance prev k ≡ q ∷ rest list tolerance q (k + 1)) at
           (far tolerance (pointAt list (count list - 1)) prev (points list) k p (rw (length-points list) h)) (sym (ap (lt tolerance) f) ∙ t)
 
-      place : lt tolerance d ≡ true → kept * 2 + 1 < length out
-      place t = room (passed l (is-far t))
-
       kept-one : lt tolerance d ≡ true → (now : List ℤ) → now ≡ set (set out (kept * 2) (p .x)) (kept * 2 + 1) (p .y) →
           Left whole old (kept + 1) (rest list tolerance p (k + 1)) now
       kept-one t now g = rw g (taken (passed l (is-far t)))
@@ -130,20 +127,20 @@ keep-far-spec =
     (λ c κs. search needs)  -- copy-requires
     (λ c. search needs)  -- same-length
     returns
-    (λ c κs. search needs)  -- point-at-requires
-    (λ c κs. search needs)  -- put-requires
+    (λ c κs. tt)  -- point-at-requires
+    (λ c κs. tt)  -- put-requires
     (λ c. search (limit-x, limit-y, started, needs))  -- loop-holds
-    (λ c κs. search needs)  -- point-at-requires-2
+    (λ c κs. tt)  -- point-at-requires-2
     (λ c. search needs)  -- add-k
     (λ c κs. search (limit-x, limit-y, needs))  -- get-sq-dist-requires
-    (λ c κs. search (place, needs))  -- put-requires-2
+    (λ c κs. tt)  -- put-requires-2
     (λ c. search needs)  -- add-kept
     (λ c. search needs)  -- loop-less
     (λ c. search (limit-x, limit-y, kept-one, needs))  -- loop-again
     (λ c. search needs)  -- loop-less-2
     (λ c. search (dropped-one _ _ _ (c .before .get-sq-dist .ensures), needs))  -- loop-again-2
     (λ c. search needs)  -- sub-point-at
-    (λ c κs. search needs)  -- point-at-requires-3
+    (λ c κs. tt)  -- point-at-requires-3
     (λ c κs. search (last-fits, needs))  -- with-last-requires
     (λ c. search needs)  -- same-length-2
     (λ c. search (finished, needs)))  -- returns-2

@@ -11,11 +11,11 @@ use Rattle.point.specs.Limits.{tooMany, badPoints, badSqTolerance, placesFor}
 use Rattle.point.specs.Points.{points}
 use Rattle.point.specs.declared.Answer.the-variants.{Done, Refused}
 use Rattle.point.specs.declared.Refusal.the-variants.{TooMany, BadPoint, BadTolerance, NoRoom}
-use Rattle.split.specs.Tree.{count}
+use Rattle.outline.specs.Points.{count}
+use Rattle.outline.specs.Written.{Handed}
+use Rattle.outline.proofs.Room.{too-short, long-enough, not-bad, list-fits}
 use Rattle.reduce.specs.Radial.{radial}
-use Rattle.reduce.specs.Written.{Handed}
 use Rattle.reduce.specs.Calls.{radialOf}
-use Rattle.reduce.proofs.Room.{too-short, long-enough, not-bad, list-fits}
 use Rattle.reduce.proofs.radial.simplify_radial_dist.Statement.{statement}
 use Rattle.reduce.proofs.radial.simplify_radial_dist.Tie as tie
 

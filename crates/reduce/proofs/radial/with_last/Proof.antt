@@ -9,9 +9,9 @@ use lib.ListN.{length, set}
 use borrow.Author.Needs.{needs}
 use Rattle.point.specs.Points.{flat}
 use Rattle.point.specs.declared.PointI32.{PointI32}
+use Rattle.outline.specs.Written.{onto}
+use Rattle.outline.proofs.Written.{onto-nil, onto-two}
 use Rattle.reduce.specs.Radial.{samePoint, radialEnd}
-use Rattle.reduce.specs.Written.{onto}
-use Rattle.reduce.proofs.Written.{onto-nil, onto-two}
 use Rattle.reduce.proofs.radial.with_last.Statement.{statement}
 use Rattle.reduce.proofs.radial.with_last.Tie as tie
 
@@ -42,7 +42,7 @@ module _ (last prev : PointI32) (same : Bool) (says : same ≡ samePoint prev la
       unfolding flat
       stored now e = rw (end, e) (sym (onto-nil (kept * 2 + 2) (set (set out (kept * 2) (last .x)) (kept * 2 + 1) (last .y))) ∙ onto-two (kept * 2) (last .x) (last .y) [] out place)
 
-ruleset laws = (none-more, as-it-was, one-more, place, stored, needs)
+ruleset laws = (none-more, as-it-was, one-more, stored, needs)
 
 pub with-last-spec : {M : Type 1} → statement M
 with-last-spec =
@@ -50,7 +50,7 @@ with-last-spec =
     (tie.spec
     (λ c κs. tt)  -- same-point-requires
     (λ c. search laws)  -- returns
-    (λ c κs. search laws)  -- put-requires
+    (λ c κs. tt)  -- put-requires
     (λ c. search laws)  -- add-result
     (λ c. search laws)  -- same-length
     (λ c. search laws))  -- returns-2

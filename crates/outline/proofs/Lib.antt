@@ -1,0 +1,4 @@
+pub mod Flat
+pub mod Written
+pub mod Room
+pub mod Claims

@@ -1,0 +1,19 @@
+-- How points are handed out: one after the other, at the start of a lent buffer. "Places past the answer hold theirs".
+use Prim.Native.Nat.{ℕ}
+use mathlib.Core.List.{List, _++_}
+use mathlib.Core.Path.{_≡_}
+use lib.IntN.{ℤ}
+use lib.ListN.{length, take, drop}
+use Rattle.laws.specs.Lists.{over}
+use Rattle.point.specs.Points.{flat}
+use Rattle.point.specs.declared.PointI32.{PointI32}
+
+-- a list laid over another from position n on
+unfoldable pub onto : {A : Type 0} → ℕ → List A → List A → List A
+unfolding over
+onto n xs old = take n old ++ over xs (drop n old)
+
+-- the points ps stand at the start of a buffer that was `old`, and their number is answered
+pub record Handed (ps : List PointI32) (old : List ℤ) (number : ℕ) (now : List ℤ) : Type 0 where
+  pub counted : number ≡ length ps
+  pub written : now ≡ over (flat ps) old

@@ -1,0 +1,77 @@
+-- What each call answers, and what every buffer lent to it then holds. A list is laid `over` the start of a buffer: "places past the
+-- answer hold theirs".
+use Prim.Native.Nat.{ℕ, _*_}
+use mathlib.Core.Bool.{Bool, not, _||_}
+use mathlib.Core.List.{List}
+use mathlib.Core.Option.{Option, some, none}
+use lib.Dec.{ltb, eqb}
+use lib.IntN.{ℤ}
+use lib.Ieee.{Float}
+use lib.ListN.{length}
+use Rattle.laws.specs.Lists.{over}
+use Rattle.point.specs.Limits.{tooMany, badPoints, badSqTolerance, placesFor}
+use Rattle.point.specs.Points.{flat, points}
+use Rattle.point.specs.Refusals.{refuse_when_or_}
+use Rattle.point.specs.declared.PointI32.{PointI32}
+use Rattle.point.specs.declared.Answer.{Answer}
+use Rattle.point.specs.declared.Answer.the-variants.{Done, Refused}
+use Rattle.point.specs.declared.Refusal.{Refusal}
+use Rattle.point.specs.declared.Refusal.the-variants.{TooMany, BadPoint, TooFew, BadTolerance, NoRoom}
+use Rattle.outline.specs.Points.{count}
+use Rattle.split.specs.Tree.{numbersOf}
+use Rattle.zooms.specs.Kept.{kept, marksBy}
+
+-- the buffer is too small for so many points
+abbrev pub shortFor : ℕ → List ℤ → Bool
+shortFor n out = ltb (length out) (placesFor n * 2)
+
+-- ---- numbers
+
+pub record Numbered : Type 0 where
+  pub answer : Answer
+  pub out : List Float
+
+abbrev pub numbersRefusal : List ℤ → List Float → Option Refusal
+numbersRefusal list out =
+    refuse TooMany when tooMany (length list) or
+    refuse BadPoint when badPoints list or
+    refuse TooFew when eqb (count list) 0 or
+    refuse NoRoom when ltb (length out) (placesFor (count list)) or
+    none
+
+unfoldable pub numbersOutcome : Option Refusal → List ℤ → List Float → Numbered
+unfolding numbersOf over
+numbersOutcome (some r) list out = record { answer = Refused r; out = out }
+numbersOutcome none list out = record { answer = Done (count list); out = over (numbersOf list) out }
+
+unfoldable pub numberedOf : List ℤ → List Float → Numbered
+unfolding numbersOutcome
+numberedOf list out = numbersOutcome (numbersRefusal list out) list out
+
+-- ---- zoom
+
+pub record Points : Type 0 where
+  pub answer : Answer
+  pub out : List ℤ
+
+abbrev pub handed : List PointI32 → List ℤ → Points
+handed ps out = record { answer = Done (length ps); out = over (flat ps) out }
+
+-- "a list of numbers that has not one for each point is BadPoint"
+abbrev pub zoomRefusal : List ℤ → List Float → Float → List ℤ → Option Refusal
+zoomRefusal list numbers tolerance out =
+    refuse TooMany when tooMany (length list) or
+    refuse BadPoint when badPoints list || not (eqb (length numbers) (count list)) or
+    refuse TooFew when eqb (count list) 0 or
+    refuse BadTolerance when badSqTolerance tolerance or
+    refuse NoRoom when shortFor (count list) out or
+    none
+
+unfoldable pub zoomOutcome : Option Refusal → List ℤ → List Float → Float → List ℤ → Points
+unfolding kept marksBy flat points over
+zoomOutcome (some r) list numbers tolerance out = record { answer = Refused r; out = out }
+zoomOutcome none list numbers tolerance out = handed (kept (marksBy tolerance numbers) (points list)) out
+
+unfoldable pub zoomOf : List ℤ → List Float → Float → List ℤ → Points
+unfolding zoomOutcome
+zoomOf list numbers tolerance out = zoomOutcome (zoomRefusal list numbers tolerance out) list numbers tolerance out

@@ -1,0 +1,32 @@
+-- The points of a list that marks keep, and the marks by the numbers.
+use Prim.Native.Nat.{ℕ}
+use mathlib.Core.Bool.{true, false}
+use mathlib.Core.List.{List, [], _∷_}
+use lib.Dec.{eqb}
+use lib.Ieee.{Float, lt}
+use Rattle.point.specs.declared.PointI32.{PointI32}
+use Rattle.split.specs.Tree.{mark}
+
+-- the points whose mark is not 0
+unfoldable pub select : List ℕ → List PointI32 → List PointI32
+select [] ps = []
+select (m ∷ marks) [] = []
+select (m ∷ marks) (p ∷ ps) = elim (eqb m 0) [ true ↦ select marks ps | false ↦ p ∷ select marks ps ]
+
+-- the points of a list that Douglas-Peucker keeps: "of one point gives it twice"
+unfoldable pub kept : List ℕ → List PointI32 → List PointI32
+unfolding select
+kept marks [] = []
+kept marks (p ∷ []) = p ∷ p ∷ []
+kept marks (p ∷ q ∷ ps) = select marks (p ∷ q ∷ ps)
+
+-- the marks by the numbers: both ends are kept, and between them each point whose number is greater than the tolerance
+unfoldable pub marksAfter : Float → List Float → List ℕ
+marksAfter tolerance [] = []
+marksAfter tolerance (v ∷ []) = 1 ∷ []
+marksAfter tolerance (v ∷ w ∷ vs) = mark (lt tolerance v) ∷ marksAfter tolerance (w ∷ vs)
+
+unfoldable pub marksBy : Float → List Float → List ℕ
+unfolding marksAfter
+marksBy tolerance [] = []
+marksBy tolerance (v ∷ vs) = 1 ∷ marksAfter tolerance vs
