@@ -1,8 +1,2 @@
-pub mod Flat
-pub mod Written
-pub mod Within
-pub mod Places
-pub mod Outward
-pub mod Costly
-pub mod Verdicts
+mod Between
 pub mod Claims

@@ -2,15 +2,28 @@
 // do without at little cost.
 //
 // Lists of points are x, y, x, y, in lent slices; counts are points. Refusals are judged first, and
-// then nothing can fail. `simplify` takes 32,932 bytes of stack, of which 32,768 are the list that
-// stands between its two passes, and the others take 132 at most (measured on the x86-64 code, with
-// return addresses).
-mod both;
-mod penalties;
-mod refused;
-mod staircase;
-mod triangle;
-
-pub use both::simplify;
+// then nothing can fail. `simplify` takes 32,768 bytes of stack for the list that stands between its two
+// passes, beside its own few and what a pass takes: 136 at most (measured on the x86-64 code).
+ghost use mathlib.Core.Path.{_≡_};
+ghost use Rattle.simplify.specs.Calls.{simplifyOf};
+use passes::Verdict;
+use passes::judge;
 pub use penalties::limit_penalties;
+use point::Answer;
 pub use staircase::remove_staircase;
+
+// Puts the points that are left after both passes at the start of `out`. What the first leaves stands
+// in a list of its own, of 32 KiB on the stack.
+pub fn simplify(points: &[i32], clockwise: bool, out: &mut [i32]) -> Answer
+    ensures { λ r. ⌜ record { answer = r; out = now (out .exit) }
+        ≡ simplifyOf (now (points .entry)) clockwise (now (out .entry)) ⌝ }
+{
+    match judge(points, out.len()) {
+        Verdict::Refused(refusal) => Answer::Refused(refusal),
+        Verdict::Fine => {
+            let mut between = [0i32; 8192];
+            let kept = remove_staircase(points, clockwise, &mut between).count();
+            limit_penalties(&between[0..kept * 2], out)
+        }
+    }
+}

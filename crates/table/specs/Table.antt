@@ -11,10 +11,10 @@ use Rattle.point.specs.Limits.{badList}
 use Rattle.point.specs.Points.{flat}
 use Rattle.point.specs.declared.Answer.the-variants as Answer
 use Rattle.point.specs.declared.PointI32.{PointI32}
-use Rattle.chart.specs.Pixels.{badChart, pixelAt}
-use Rattle.chart.specs.declared.Chart.{Chart}
-use Rattle.walker.specs.Walk.{walked}
-use Rattle.walker.specs.declared.Walked.the-variants as Walked
+use Rattle.bitmap.specs.Pixels.{badChart, pixelAt}
+use Rattle.bitmap.specs.declared.Chart.{Chart}
+use Rattle.walks.specs.Walk.{walked}
+use Rattle.walks.specs.declared.Walked.the-variants as Walked
 use Rattle.spiral.specs.Spiral.{pointsOf, spiralPoints}
 use Rattle.simplify.specs.Penalties.{penalty}
 use Rattle.simplify.specs.Calls.{staircaseOf, penaltiesOf, simplifyOf}

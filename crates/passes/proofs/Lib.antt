@@ -1,0 +1,3 @@
+pub mod Verdicts
+pub mod Within
+pub mod Claims

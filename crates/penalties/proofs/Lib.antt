@@ -1,0 +1,2 @@
+pub mod Costly
+pub mod Claims

@@ -1,0 +1,70 @@
+-- What stands between the two passes: of a list that is not refused the first hands on a list that the second does not refuse either.
+-- Assumes nothing.
+use Prim.Native.Nat.{ℕ, _*_, _-_, _≤_}
+use mathlib.Core.Bool.{Bool}
+use mathlib.Core.List.{List}
+use mathlib.Core.Option.{none}
+use mathlib.Core.Path.{_≡_, sym, ap, _∙_}
+use native.Mathlib.Omega.{arith}
+use lib.Dec.{lit<}
+use lib.IntN.{ℤ}
+use lib.ListN.{length, take}
+use Rattle.laws.specs.Lists.{take-over-all}
+use Rattle.point.specs.Limits.{placesFor}
+use Rattle.point.specs.Points.{flat, points}
+use Rattle.point.specs.Refusals.{countOf}
+use Rattle.point.specs.declared.Answer.{Answer}
+use Rattle.point.specs.declared.PointI32.{PointI32}
+use Rattle.outline.specs.Points.{count}
+use Rattle.outline.proofs.Flat.{length-flat, length-points, count-flat}
+use Rattle.outline.proofs.Room.{places-shorter}
+use Rattle.passes.specs.Outcomes.{Outcome, refusal, verdict, outcome}
+use Rattle.passes.specs.declared.Verdict.{Verdict}
+use Rattle.passes.specs.declared.Verdict.the-variants.{Fine}
+use Rattle.passes.proofs.Verdicts.{few, good, places, not-refused}
+use Rattle.staircase.specs.Staircase.{removeStaircase, staircaseOf}
+use Rattle.staircase.proofs.Claims.{remove-staircase-fits}
+use Rattle.staircase.proofs.Outward.{staircase-shorter, staircase-good, staircase-places}
+
+module _ (list : List ℤ) (clockwise : Bool) (v : Verdict) (room : ℕ) (says : v ≡ verdict (refusal list room)) (fine : v ≡ Fine) where
+  abbrev left : List PointI32
+  left = removeStaircase clockwise (points list)
+
+  short : length left * 2 ≤ 8192
+  short = omega (arith, staircase-shorter clockwise (points list), length-points list, few list room v says fine)
+
+  -- the first pass has room in 8,192 values
+  first-goes-on : refusal list 8192 ≡ none
+  first-goes-on =
+      let most : placesFor (count list) ≤ 4096 = places-shorter (count list) 4096 (omega (arith, few list room v says fine)) (lit< tt) in
+      not-refused list 8192 (few list room v says fine) (good list room v says fine) (omega arith)
+
+  -- the second has room where one pass over the list would have it
+  pub second-goes-on : refusal (flat left) room ≡ none
+  second-goes-on =
+      not-refused (flat left) room (omega (arith, length-flat left, short)) (staircase-good clockwise list (good list room v says fine))
+      (rw (count-flat left) (omega (arith, staircase-places clockwise list, places list room v says fine)))
+
+  -- what the first pass leaves in a list of 8,192 values
+  module _ (answer : Answer) (old between : List ℤ) (first : record { answer = answer; out = between } ≡ staircaseOf list clockwise old)
+      (long : length between ≡ 8192) where
+    old-long : length old ≡ 8192
+    old-long = sym (remove-staircase-fits list old clockwise .long) ∙ ap (λ (o : Outcome). length (o .out)) (sym first) ∙ long
+
+    handed : record { answer = answer; out = between } ≡ outcome none left old
+    unfolding staircaseOf
+    handed = first ∙ ap (λ (n : ℕ). outcome (refusal list n) left old) old-long ∙ ap (λ o. outcome o left old) first-goes-on
+
+    module _ (kept : ℕ) (e : kept ≡ countOf answer) where
+      kept-is : kept ≡ length left
+      unfolding outcome
+      kept-is = e ∙ ap (λ (o : Outcome). countOf (o .answer)) handed
+
+      pub kept-short : kept * 2 ≤ 8192
+      kept-short = omega (arith, kept-is, short)
+
+      pub middle : take (kept * 2 - 0) between ≡ flat left
+      unfolding outcome
+      middle =
+          let f : kept * 2 - 0 ≡ length (flat left) = omega (arith, kept-is, length-flat left) in
+          ap (λ (o : Outcome). take (kept * 2 - 0) (o .out)) handed ∙ rw f (take-over-all (flat left) old)
