@@ -25,7 +25,7 @@ module _ (p : PointI32) (n : Near p) where
 
 module _ (r x1 y1 x2 y2 : ℤ) (e : r ≡ crossOf (toZ w32 (ofZ w32 x1)) (toZ w32 (ofZ w32 y1)) (toZ w32 (ofZ w32 x2)) (toZ w32 (ofZ w32 y2)))
     (hx1 : natAbs x1 ≤ 32766) (hy1 : natAbs y1 ≤ 32766) (hx2 : natAbs x2 ≤ 32766) (hy2 : natAbs y2 ≤ 32766) where
-  turned : r ≡ crossOf x1 y1 x2 y2
+  pub turned : r ≡ crossOf x1 y1 x2 y2
   turned = rw (e, by-bits x1 hx1, by-bits y1 hy1, by-bits x2 hx2, by-bits y2 hy2)
 
   small : SFits w32 (crossOf x1 y1 x2 y2)

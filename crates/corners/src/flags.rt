@@ -1,0 +1,110 @@
+// The flags of a list.
+ghost use Prim.Native.Nat.{_-_, _≤_, _<_};
+ghost use mathlib.Core.Bool.{false, not, _&&_};
+ghost use mathlib.Core.Path.{_≡_};
+ghost use lib.IntN.{pos};
+ghost use lib.ListN.{length};
+ghost use lib.Signed.{leZ};
+ghost use Rattle.laws.specs.Lists.{over};
+ghost use Rattle.point.specs.Limits.{badPoints};
+ghost use Rattle.point.specs.Refusals.{if_then_else_};
+ghost use Rattle.corners.specs.Corners.{isEnd, isCorner, flag, seen, cornersOf};
+ghost use Rattle.corners.specs.Calls.{fair, findCornersOf};
+ghost use Rattle.corners.specs.Sizes.{Moderate};
+use crate::Pair;
+use crate::turns::is_sharp;
+use point::Answer;
+use point::Refusal;
+
+// Puts a flag for each point at the start of `flags`, and answers how many those are. Of a closed list
+// the last point, which repeats the first, has none.
+pub fn find_corners(points: &[i32], pair: Pair, closed: bool, flags: &mut [u8]) -> Answer
+    ensures { λ r. ⌜ record { answer = r; flags = now (flags .exit) }
+        ≡ findCornersOf (now (points .entry)) pair closed (now (flags .entry)) ⌝ }
+{
+    let n = points.len() / 2;
+    if point::too_many(points.len()) {
+        return Answer::Refused(Refusal::TooMany);
+    }
+    if point::bad_points(points) {
+        return Answer::Refused(Refusal::BadPoint);
+    }
+    if n == 0 {
+        return Answer::Refused(Refusal::TooFew);
+    }
+    if !fair(pair) {
+        return Answer::Refused(Refusal::BadSettings);
+    }
+    let m = seen(n, closed);
+    if flags.len() < m {
+        return Answer::Refused(Refusal::NoRoom);
+    }
+    write(points, pair, closed, m, flags);
+    Answer::Done(m)
+}
+
+// How many of `n` points are looked at.
+fn seen(n: usize, closed: bool) -> usize
+    requires { ⌜ 0 < n ⌝ }
+    ensures { λ r. ⌜ r ≡ (if closed then n - 1 else n) ⌝ }
+{
+    if closed { n - 1 } else { n }
+}
+
+// Whether a pair is in range.
+fn fair(pair: Pair) -> bool
+    ensures { λ r. ⌜ r ≡ fair pair ⌝ }
+{
+    within(-1000, pair.c) && within(1, pair.s)
+}
+
+fn within(low: i32, v: i32) -> bool
+    ensures { λ r. ⌜ r ≡ (leZ low v && leZ v (pos 1000)) ⌝ }
+{
+    low <= v && v <= 1000
+}
+
+// Writes the flags of the first `m` points.
+fn write(points: &[i32], pair: Pair, closed: bool, m: usize, flags: &mut [u8])
+    requires { ⌜ (badPoints (now points) ≡ false) × Moderate pair × (m ≡ seen (now points) closed) × (m ≤ length (now flags)) ⌝ }
+    ensures { λ _. ⌜ now (flags .exit) ≡ over (cornersOf (now (points .entry)) pair closed) (now (flags .entry)) ⌝ }
+{
+    let mut i = 0;
+    while i < m {
+        let k = i;
+        i += 1;
+        flags[k] = flag(is_corner(points, pair, closed, m, k));
+    }
+}
+
+fn flag(corner: bool) -> u8
+    ensures { λ r. ⌜ r ≡ flag corner ⌝ }
+{
+    if corner { 1 } else { 0 }
+}
+
+// Whether the point at a position, of the first `m`, is a corner.
+fn is_corner(points: &[i32], pair: Pair, closed: bool, m: usize, i: usize) -> bool
+    requires { ⌜ (badPoints (now points) ≡ false) × Moderate pair × (i < m) ⌝ }
+    ensures { λ r. ⌜ r ≡ isCorner (now (points .entry)) pair closed m i ⌝ }
+{
+    if is_open_end(closed, m, i) {
+        return true;
+    }
+    is_sharp(points, pair, m, i)
+}
+
+// Whether a position is at an end of an open list.
+fn is_open_end(closed: bool, m: usize, i: usize) -> bool
+    requires { ⌜ i < m ⌝ }
+    ensures { λ r. ⌜ r ≡ (not closed && isEnd m i) ⌝ }
+{
+    !closed && is_end(m, i)
+}
+
+fn is_end(m: usize, i: usize) -> bool
+    requires { ⌜ i < m ⌝ }
+    ensures { λ r. ⌜ r ≡ isEnd m i ⌝ }
+{
+    i == 0 || i + 1 == m
+}

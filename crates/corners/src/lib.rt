@@ -1,0 +1,15 @@
+// The corners of an outline, in whole numbers: exact, unlike the Rust's find_corners, which compares angles.
+//
+// Lists of points are x, y, x, y; flags are bytes, 1 for a corner and 0 for none. The call takes 80 bytes
+// of stack with its return address (measured on the x86-64 code).
+mod flags;
+mod turns;
+
+pub use flags::find_corners;
+
+// The angle from which on a turn is a corner: `c` and `s` are proportional to its cosine and sine, so
+// that 0 and 1 stand for 90 degrees.
+pub struct Pair {
+    pub c: i32,
+    pub s: i32,
+}

@@ -1,0 +1,112 @@
+// The turn at one point of a list.
+ghost use Prim.Native.Nat.{_≤_, _<_};
+ghost use mathlib.Core.Bool.{false};
+ghost use mathlib.Core.Path.{_≡_};
+ghost use lib.IntN.{pos, negℤ, natAbs, _+ℤ_, _-ℤ_, _*ℤ_};
+ghost use lib.Signed.{leZ};
+ghost use Rattle.point.specs.Limits.{badPoints};
+ghost use Rattle.util.specs.Area.{crossOf};
+ghost use Rattle.util.specs.Near.{Near};
+ghost use Rattle.corners.specs.Corners.{vector, before, behind, into, outOf, sharp};
+ghost use Rattle.corners.specs.Sizes.{Short, Moderate};
+use crate::Pair;
+use point::PointI32;
+
+// Whether the turn at a position of the first `m` points is as sharp as the pair says.
+pub(crate) fn is_sharp(points: &[i32], pair: Pair, m: usize, i: usize) -> bool
+    requires { ⌜ (badPoints (now points) ≡ false) × Moderate pair × (i < m) ⌝ }
+    ensures { λ r. ⌜ r ≡ sharp pair (into (now (points .entry)) m i) (outOf (now (points .entry)) m i) ⌝ }
+{
+    let at = outline::point_at(points, i);
+    let v1 = vector(outline::point_at(points, before(m, i)), at);
+    let v2 = vector(at, outline::point_at(points, behind(m, i)));
+    sharp(pair, v1, v2)
+}
+
+// The position before `i`: past the first it is the last.
+fn before(m: usize, i: usize) -> usize
+    requires { ⌜ i < m ⌝ }
+    ensures { λ r. ⌜ r ≡ before m i ⌝ }
+{
+    if i == 0 { m - 1 } else { i - 1 }
+}
+
+// The position behind `i`: past the last it is the first.
+fn behind(m: usize, i: usize) -> usize
+    requires { ⌜ i < m ⌝ }
+    ensures { λ r. ⌜ r ≡ behind m i ⌝ }
+{
+    if i + 1 == m { 0 } else { i + 1 }
+}
+
+// The vector from one point to another.
+fn vector(p: PointI32, q: PointI32) -> PointI32
+    requires { ⌜ Near p × Near q ⌝ }
+    ensures { λ r. ⌜ (r ≡ vector p q) × Short r ⌝ }
+{
+    let x = difference(q.x, p.x);
+    let y = difference(q.y, p.y);
+    PointI32 { x: x, y: y }
+}
+
+fn difference(a: i32, b: i32) -> i32
+    requires { ⌜ (natAbs a ≤ 16383) × (natAbs b ≤ 16383) ⌝ }
+    ensures { λ r. ⌜ (r ≡ a -ℤ b) × (natAbs r ≤ 32766) ⌝ }
+{
+    a - b
+}
+
+// Whether a turn from one vector to another is as sharp as the pair says.
+fn sharp(pair: Pair, v1: PointI32, v2: PointI32) -> bool
+    requires { ⌜ Moderate pair × Short v1 × Short v2 ⌝ }
+    ensures { λ r. ⌜ r ≡ sharp pair v1 v2 ⌝ }
+{
+    let cross = cross_size(v1.x, v1.y, v2.x, v2.y);
+    let dot = dot(v1.x, v1.y, v2.x, v2.y);
+    reaches(scaled(pair.c, cross), scaled(pair.s, dot))
+}
+
+// The size of the cross product of two vectors.
+fn cross_size(x1: i32, y1: i32, x2: i32, y2: i32) -> i64
+    requires { ⌜ (natAbs x1 ≤ 32766) × (natAbs y1 ≤ 32766) × (natAbs x2 ≤ 32766) × (natAbs y2 ≤ 32766) ⌝ }
+    ensures { λ r. ⌜ (r ≡ pos (natAbs (crossOf x1 y1 x2 y2))) × (natAbs r ≤ 2147221512) ⌝ }
+{
+    size(util::cross(x1, y1, x2, y2))
+}
+
+fn size(v: i64) -> i64
+    requires { ⌜ natAbs v ≤ 2147221512 ⌝ }
+    ensures { λ r. ⌜ (r ≡ pos (natAbs v)) × (natAbs r ≤ 2147221512) ⌝ }
+{
+    if v < 0 { -v } else { v }
+}
+
+// The dot product of two vectors: the cross product of the first, its `y` turned about, and the second,
+// its coordinates swapped.
+fn dot(x1: i32, y1: i32, x2: i32, y2: i32) -> i64
+    requires { ⌜ (natAbs x1 ≤ 32766) × (natAbs y1 ≤ 32766) × (natAbs x2 ≤ 32766) × (natAbs y2 ≤ 32766) ⌝ }
+    ensures { λ r. ⌜ (r ≡ x1 *ℤ x2 +ℤ y1 *ℤ y2) × (natAbs r ≤ 2147221512) ⌝ }
+{
+    util::cross(x1, negated(y1), y2, x2)
+}
+
+fn negated(v: i32) -> i32
+    requires { ⌜ natAbs v ≤ 32766 ⌝ }
+    ensures { λ r. ⌜ (r ≡ pos 0 -ℤ v) × (natAbs r ≤ 32766) ⌝ }
+{
+    -v
+}
+
+fn scaled(k: i32, v: i64) -> i64
+    requires { ⌜ (natAbs k ≤ 1000) × (natAbs v ≤ 2147221512) ⌝ }
+    ensures { λ r. ⌜ (r ≡ k *ℤ v) × (natAbs r ≤ 2147221512000) ⌝ }
+{
+    k as i64 * v
+}
+
+fn reaches(a: i64, b: i64) -> bool
+    requires { ⌜ (natAbs a ≤ 2147221512000) × (natAbs b ≤ 2147221512000) ⌝ }
+    ensures { λ r. ⌜ r ≡ leZ (pos 0) (a -ℤ b) ⌝ }
+{
+    0 <= a - b
+}

@@ -1,0 +1,55 @@
+-- The midpoint of two points, the length of a vector and the crossing of two lines, operation by operation as the Rust computes them (util.rs).
+use mathlib.Core.Bool.{Bool, _&&_}
+use lib.IntN.{ℤ, pos, _+ℤ_, _*ℤ_}
+use lib.Ieee.{Float, binary64, ofInt, ofBits, neg, add, sub, mul, div, lt}
+use Rattle.point.specs.Refusals.{if_then_else_}
+use Rattle.point.specs.declared.PointI32.{PointI32}
+use Rattle.point.specs.declared.PointF64.{PointF64}
+use Rattle.sqrt.specs.Root.{rootOf}
+use Rattle.crossing.specs.declared.Intersection.{Intersection}
+use Rattle.crossing.specs.declared.Intersection.the-variants.{Parallel, Coincide, Cross}
+
+-- find_mid_point
+abbrev pub half : Float → Float → Float
+half a b = div binary64 (add binary64 a b) (ofInt binary64 (pos 2))
+
+abbrev pub middle : PointF64 → PointF64 → PointF64
+middle p q = record { x = half (p .x) (q .x); y = half (p .y) (q .y) }
+
+-- norm
+unfoldable pub lengthOf : Float → Float → Float
+unfolding rootOf
+lengthOf x y = rootOf binary64 (add binary64 (mul binary64 x x) (mul binary64 y y))
+
+unfoldable pub lengthOfI32 : ℤ → ℤ → Float
+unfolding rootOf
+lengthOfI32 x y = rootOf binary64 (ofInt binary64 (x *ℤ x +ℤ y *ℤ y))
+
+-- negligible: between -1e-7 and 1e-7
+abbrev pub tiny : Float
+tiny = ofBits binary64 0x3e7ad7f29abcaf48
+
+unfoldable pub negligible : Float → Bool
+negligible v = lt (neg tiny) v && lt v tiny
+
+-- a * b - c * d
+abbrev pub across : Float → Float → Float → Float → Float
+across a b c d = sub binary64 (mul binary64 a b) (mul binary64 c d)
+
+-- find_intersection: "the 1e-7 tests and their order are the Rust's"
+unfoldable pub crossing : PointF64 → PointF64 → PointF64 → PointF64 → Intersection
+unfolding negligible
+crossing p1 p2 p3 p4 =
+    let denom = across (sub binary64 (p4 .y) (p3 .y)) (sub binary64 (p2 .x) (p1 .x)) (sub binary64 (p4 .x) (p3 .x)) (sub binary64 (p2 .y) (p1 .y)) in
+    let numera = across (sub binary64 (p4 .x) (p3 .x)) (sub binary64 (p1 .y) (p3 .y)) (sub binary64 (p4 .y) (p3 .y)) (sub binary64 (p1 .x) (p3 .x)) in
+    let numerb = across (sub binary64 (p2 .x) (p1 .x)) (sub binary64 (p1 .y) (p3 .y)) (sub binary64 (p2 .y) (p1 .y)) (sub binary64 (p1 .x) (p3 .x)) in
+    let mua = div binary64 numera denom in
+    let mub = div binary64 numerb denom in
+    if negligible denom && negligible numera && negligible numerb then Coincide (middle p1 p2) else
+    if negligible denom then Parallel else
+    Cross
+    (record {
+      x = add binary64 (p1 .x) (mul binary64 mua (sub binary64 (p2 .x) (p1 .x)));
+      y = add binary64 (p1 .y) (mul binary64 mua (sub binary64 (p2 .y) (p1 .y)));
+    })
+    mua mub

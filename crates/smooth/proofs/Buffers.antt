@@ -1,0 +1,42 @@
+-- Points and flags that are written behind those at the start of a buffer. Assumes nothing.
+use Prim.Native.Nat.{ℕ, suc, _+_, _*_, _<_, _≤_}
+use mathlib.Core.List.{List, [], _∷_, _++_, append-assoc, append-nil}
+use mathlib.Core.Path.{_≡_, refl, sym, ap, _∙_}
+use native.Mathlib.Omega.{arith}
+use lib.Ieee.{Float}
+use lib.ListN.{length, set, length-append}
+use Rattle.laws.specs.Lists.{over, over-push, over-push-two}
+use Rattle.point.specs.declared.PointF64.{PointF64}
+use Rattle.smooth.specs.Round.{flat}
+use Rattle.smooth.specs.Parts.{putPoints, putFlags}
+
+pub length-flat : (ps : List PointF64) → length (flat ps) ≡ length ps * 2
+unfolding flat
+length-flat [] = refl
+length-flat (p ∷ ps) = omega (arith, length-flat ps)
+
+flat-more : (ps : List PointF64) (p : PointF64) → flat (ps ++ (p ∷ [])) ≡ flat ps ++ (p .x ∷ p .y ∷ [])
+unfolding flat
+flat-more [] p = refl
+flat-more (q ∷ ps) p = ap (λ (l : List Float). q .x ∷ q .y ∷ l) (flat-more ps p)
+
+pub points-behind : (ps qs : List PointF64) (k : ℕ) (old : List Float) → length ps ≡ k → (k + length qs) * 2 ≤ length old →
+    putPoints k qs (over (flat ps) old) ≡ over (flat (ps ++ qs)) old
+unfolding putPoints
+points-behind ps [] k old e h = ap (λ (l : List PointF64). over (flat l) old) (sym (append-nil ps))
+points-behind ps (q ∷ qs) k old e h =
+    let l : length (flat ps) ≡ k * 2 = length-flat ps ∙ ap (λ (n : ℕ). n * 2) e in
+    let e′ : length (ps ++ (q ∷ [])) ≡ k + 1 = length-append ps (q ∷ []) ∙ ap (λ (n : ℕ). n + 1) e in
+    ap (putPoints (k + 1) qs)
+    (over-push-two (flat ps) old (k * 2) (q .x) (q .y) l (omega arith) ∙ ap (λ (l : List Float). over l old) (sym (flat-more ps q)))
+    ∙ points-behind (ps ++ (q ∷ [])) qs (k + 1) old e′ (omega arith)
+    ∙ ap (λ (l : List PointF64). over (flat l) old) (append-assoc ps (q ∷ []) qs)
+
+pub flags-behind : (xs ys : List ℕ) (k : ℕ) (old : List ℕ) → length xs ≡ k → k + length ys ≤ length old → putFlags k ys (over xs old) ≡ over (xs ++ ys) old
+unfolding putFlags
+flags-behind xs [] k old e h = ap (λ (l : List ℕ). over l old) (sym (append-nil xs))
+flags-behind xs (y ∷ ys) k old e h =
+    let e′ : length (xs ++ (y ∷ [])) ≡ k + 1 = length-append xs (y ∷ []) ∙ ap (λ (n : ℕ). n + 1) e in
+    ap (putFlags (k + 1) ys) (over-push xs old k y e (omega arith))
+    ∙ flags-behind (xs ++ (y ∷ [])) ys (k + 1) old e′ (omega arith)
+    ∙ ap (λ (l : List ℕ). over l old) (append-assoc xs (y ∷ []) ys)
