@@ -1,0 +1,5 @@
+pub mod Values
+pub mod Room
+pub mod Requests
+pub mod Bytes
+pub mod Claims

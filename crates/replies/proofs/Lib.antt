@@ -1,0 +1,3 @@
+pub mod Behind
+pub mod Sizes
+pub mod Claims

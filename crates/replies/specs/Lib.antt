@@ -1,0 +1,3 @@
+-- What the crate promises: `Reply` says what an answer line holds.
+pub mod Reply
+pub mod Examples
