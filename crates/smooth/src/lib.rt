@@ -12,6 +12,8 @@ mod round;
 mod scheme;
 mod segment;
 
+pub use corners::Pair;
+pub use corners::find_corners;
 use point::Refusal;
 pub use round::subdivide_keep_corners;
 
