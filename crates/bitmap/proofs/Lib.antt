@@ -1,3 +1,4 @@
+pub mod Claims
 pub mod Sizes
 pub mod Digits
 pub mod Outside

@@ -20,12 +20,16 @@ use Rattle.point.specs.Refusals.{if_then_else_}
 use Rattle.point.specs.declared.PointI32.{PointI32}
 use Rattle.point.specs.declared.Refusal.{Refusal}
 use Rattle.point.specs.declared.Refusal.the-variants.{BadSize}
+use Rattle.spiral.specs.Answers.{freshNumber, turnNumber, advancedNumber}
 use Rattle.spiral.specs.Spiral.{freshState, freshSpiral, sound, alone, onward, spiralTurn, advanced}
 use Rattle.spiral.specs.declared.Advanced.{Advanced}
 use Rattle.spiral.specs.declared.AdvancedOutcome.{AdvancedOutcome}
 use Rattle.spiral.specs.declared.Fresh.the-variants.{Ready}
 use Rattle.spiral.specs.declared.SpiralWalker.{SpiralWalker}
 use Rattle.spiral.specs.declared.Turn.the-variants.{At, End, Refused}
+use Rattle.spiral.proofs.Fresh.number.Reads.{Post as Fresh-number}
+use Rattle.spiral.proofs.Turn.number.Reads.{Post as Turn-number}
+use Rattle.spiral.proofs.Advanced.number.Reads.{Post as Advanced-number}
 use Rattle.spiral.proofs.turning.spiral.Reads.{Post as Spiral}
 use Rattle.spiral.proofs.turning.spiral_step.Reads.{Post as Spiral-step}
 use Rattle.spiral.proofs.turning.spiral_advance as spiral-advance
@@ -37,6 +41,15 @@ spiral-determined κs a a′ r r′ s s′ p q e = p ∙ ap freshSpiral e ∙ sy
 
 pub spiral-step-determined : (κs : _) (a a′ : _) (r r′ : _) (s s′ : _) → Spiral-step κs a r s → Spiral-step κs a′ r′ s′ → a .0 ≡ a′ .0 → r ≡ r′
 spiral-step-determined κs a a′ r r′ s s′ p q e = p ∙ ap spiralTurn e ∙ sym q
+
+pub fresh-number-determined : (κs : _) (a a′ : _) (r r′ : _) (s s′ : _) → Fresh-number κs a r s → Fresh-number κs a′ r′ s′ → a .0 ≡ a′ .0 → r ≡ r′
+fresh-number-determined κs a a′ r r′ s s′ p q e = p ∙ ap freshNumber e ∙ sym q
+
+pub turn-number-determined : (κs : _) (a a′ : _) (r r′ : _) (s s′ : _) → Turn-number κs a r s → Turn-number κs a′ r′ s′ → a .0 ≡ a′ .0 → r ≡ r′
+turn-number-determined κs a a′ r r′ s s′ p q e = p ∙ ap turnNumber e ∙ sym q
+
+pub advanced-number-determined : (κs : _) (a a′ : _) (r r′ : _) (s s′ : _) → Advanced-number κs a r s → Advanced-number κs a′ r′ s′ → a .0 ≡ a′ .0 → r ≡ r′
+advanced-number-determined κs a a′ r r′ s s′ p q e = p ∙ ap advancedNumber e ∙ sym q
 
 -- `spiral_advance` is proved by hand and has no `Post`. Its one clause, as Rattle reads it off the source, is this fact of the state at entry, the state at exit and the answer.
 abbrev pub Says : SpiralWalker → SpiralWalker → Advanced → Type 0

@@ -6,7 +6,7 @@ use mathlib.Core.Option.{Option, some, none}
 use lib.Dec.{ltb, leb, eqb}
 use lib.IntN.{ℤ, pos, negsuc, natAbs, _+ℤ_, _-ℤ_}
 use lib.Signed.{leZ, ltZ}
-use Rattle.point.specs.Refusals.{if_then_else_, refuse_when_or_, refusalNumber}
+use Rattle.point.specs.Refusals.{if_then_else_, refuse_when_or_}
 use Rattle.point.specs.declared.PointI32.{PointI32}
 use Rattle.point.specs.declared.Refusal.{Refusal}
 use Rattle.point.specs.declared.Refusal.the-variants.{BadSize}
@@ -144,32 +144,6 @@ advancedBy (Refused r) s = record { answer = Advanced.Refused r; spiral = s }
 
 abbrev pub advanced : SpiralWalker → AdvancedOutcome
 advanced s = advancedBy (spiralTurn s) s
-
--- ---- the answers on paper: document 01's number of each, and its point
-
-abbrev pub freshNumber : Fresh → ℕ
-freshNumber (Fresh.Ready s) = 0
-freshNumber (Fresh.Refused r) = refusalNumber r
-
-abbrev pub turnNumber : Turn → ℕ
-turnNumber (At p next) = 0
-turnNumber End = 0
-turnNumber (Refused r) = refusalNumber r
-
-abbrev pub turnPoint : Turn → Option PointI32
-turnPoint (At p next) = some p
-turnPoint End = none
-turnPoint (Refused r) = none
-
-abbrev pub advancedNumber : Advanced → ℕ
-advancedNumber (Advanced.At p) = 0
-advancedNumber Advanced.End = 0
-advancedNumber (Advanced.Refused r) = refusalNumber r
-
-abbrev pub advancedPoint : Advanced → Option PointI32
-advancedPoint (Advanced.At p) = some p
-advancedPoint Advanced.End = none
-advancedPoint (Advanced.Refused r) = none
 
 -- ---- a spiral to its end
 

@@ -5,6 +5,7 @@
 //
 // `spiral_advance` takes 336 bytes of stack with its return addresses, `spiral_step` 48, `spiral` 8 (the
 // frames of the x86-64 code at -O3 along the deepest path, added up).
+mod answers;
 mod places;
 mod turning;
 
@@ -15,6 +16,7 @@ pub use turning::spiral_advance;
 pub use turning::spiral_step;
 
 // Where such a walk stands, and how it goes on: clockwise, y down.
+#[repr(C)]
 pub struct SpiralWalker {
     pub x: i32,
     pub y: i32,
