@@ -1,4 +1,5 @@
 // The tests that every call makes of what it is handed.
+ghost use mathlib.Core.Bool.{_&&_};
 ghost use mathlib.Core.Path.{_≡_};
 ghost use Rattle.point.specs.Limits.{tooMany, inRange, within, inRangeF64, badPoints, badPointsF64, badTolerance, badSqTolerance, placesFor};
 
@@ -22,21 +23,21 @@ pub fn too_many(values: usize) -> bool
     MOST_VALUES < values
 }
 
-// Whether a list has half a point, or a coordinate out of range.
+// Whether a list has half a point, or a coordinate out of range. It looks at all of a list, whatever it
+// finds: so a processor can look at several at once.
 pub fn bad_points(points: &[i32]) -> bool
     ensures { λ r. ⌜ r ≡ badPoints (now (points .entry)) ⌝ }
 {
     if points.len() % 2 != 0 {
         return true;
     }
+    let mut fine = true;
     let mut i = 0;
     while i < points.len() {
-        if !in_range(points[i]) {
-            return true;
-        }
+        fine = both(fine, in_range(points[i]));
         i += 1;
     }
-    false
+    !fine
 }
 
 // The same of a list of points with fractions.
@@ -46,14 +47,13 @@ pub fn bad_points_f64(points: &[f64]) -> bool
     if points.len() % 2 != 0 {
         return true;
     }
+    let mut fine = true;
     let mut i = 0;
     while i < points.len() {
-        if !in_range_f64(points[i]) {
-            return true;
-        }
+        fine = both(fine, in_range_f64(points[i]));
         i += 1;
     }
-    false
+    !fine
 }
 
 // Whether a tolerance is NaN or out of range.
@@ -97,4 +97,10 @@ fn within(low: f64, value: f64, high: f64) -> bool
     ensures { λ r. ⌜ r ≡ within low value high ⌝ }
 {
     low <= value && value <= high
+}
+
+fn both(a: bool, b: bool) -> bool
+    ensures { λ r. ⌜ r ≡ (a && b) ⌝ }
+{
+    a && b
 }
