@@ -8,6 +8,7 @@ pub mod WholeRoot
 pub mod NearestRoot
 pub mod Patterns
 pub mod BitByBit
+pub mod ByHalves
 pub mod RootFits
 pub mod WholeUnits
 pub mod Neighbours

@@ -1,5 +1,6 @@
 -- What it is to be nearest to a square root, said by squares of whole numbers. The claims cite it, and private contracts; no public contract does.
 use Prim.Native.Nat.{ℕ, _+_, _*_, _/_, _^_, _≤_, _<_}
+use mathlib.Core.Path.{_≡_}
 use lib.Ieee.{Float, Format, low}
 use lib.Ieee.Positive.{num, den}
 
@@ -20,3 +21,9 @@ NotNearer n r y = (y < r → (y + r) * (y + r) ≤ 4 * n) × (r < y → 4 * n �
 pub record NearestWhole (n r : ℕ) : Type 0 where
   pub not-less : r * r < n + r
   pub not-more : n ≤ r * r + r
+
+-- Of the root of n, root is found, all but for less than p, and left is what n has above the square of root. Where p is 1, root is the whole
+-- part of the root of n.
+pub record Found (n root left p : ℕ) : Type 0 where
+  pub square : root * root + left ≡ n
+  pub near : left < (root * 2 + p) * p
