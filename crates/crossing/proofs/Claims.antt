@@ -1,18 +1,13 @@
 -- What follows of the contracts, for their readers and their callers. Assumes nothing.
 use mathlib.Core.Bool.{false}
-use mathlib.Core.Path.{_≡_, refl, sym, ap, ap₂, _∙_}
+use mathlib.Core.Path.{_≡_, refl, sym, ap, _∙_}
 use lib.Ieee.{Float, nan, lt, add, sub, ofInt, ofBits}
 use Rattle.point.specs.declared.PointF64.{PointF64}
 use Rattle.crossing.specs.declared.Intersection.the-variants.{Parallel, Cross}
-use Rattle.crossing.specs.Lines.{middle, lengthOf}
-use Rattle.crossing.specs.Calls.{middleOf, normOf, normOfI32, intersectionOf}
-use Rattle.crossing.specs.Ratios.{off, numberOf, outsideOf, insideOf, coincideOf}
-use Rattle.crossing.proofs.lines.find_intersection.Reads.{Post as Find-intersection}
-use Rattle.crossing.proofs.measures.find_mid_point.Reads.{Post as Find-mid-point}
-use Rattle.crossing.proofs.measures.middle.Reads.{Post as Middle}
-use Rattle.crossing.proofs.measures.norm.Reads.{Post as Norm}
-use Rattle.crossing.proofs.measures.norm_i32.Reads.{Post as Norm-i32}
-use Rattle.crossing.proofs.measures.length.Reads.{Post as Length}
+use Rattle.crossing.specs.Answers.{intersectionNumber}
+use Rattle.crossing.specs.Calls.{intersectionOf}
+use Rattle.crossing.specs.Ratios.{off, outsideOf, insideOf, coincideOf}
+use Rattle.crossing.proofs.two_lines.find_intersection.Reads.{Post as Find-intersection}
 use Rattle.crossing.proofs.Intersection.number.Reads.{Post as Number}
 use Rattle.crossing.proofs.Intersection.outside.Reads.{Post as Outside}
 use Rattle.crossing.proofs.Intersection.inside.Reads.{Post as Inside}
@@ -26,23 +21,8 @@ find-intersection-determined κs a a′ r r′ s s′ p q e f g h =
     let same : intersectionOf (a .0) (a .1 .0) (a .1 .1 .0) (a .1 .1 .1 .0) ≡ intersectionOf (a′ .0) (a′ .1 .0) (a′ .1 .1 .0) (a′ .1 .1 .1 .0) = rw (e, f, g, h) in
     p ∙ same ∙ sym q
 
-pub find-mid-point-determined : (κs : _) (a a′ : _) (r r′ : _) (s s′ : _) → Find-mid-point κs a r s → Find-mid-point κs a′ r′ s′ → a .0 ≡ a′ .0 → a .1 .0 ≡ a′ .1 .0 → r ≡ r′
-find-mid-point-determined κs a a′ r r′ s s′ p q e f = p ∙ ap₂ middleOf e f ∙ sym q
-
-pub middle-determined : (κs : _) (a a′ : _) (r r′ : _) (s s′ : _) → Middle κs a r s → Middle κs a′ r′ s′ → a .0 ≡ a′ .0 → a .1 .0 ≡ a′ .1 .0 → r ≡ r′
-middle-determined κs a a′ r r′ s s′ p q e f = p ∙ ap₂ middle e f ∙ sym q
-
-pub norm-determined : (κs : _) (a a′ : _) (r r′ : _) (s s′ : _) → Norm κs a r s → Norm κs a′ r′ s′ → a .0 ≡ a′ .0 → r ≡ r′
-norm-determined κs a a′ r r′ s s′ p q e = p ∙ ap normOf e ∙ sym q
-
-pub norm-i32-determined : (κs : _) (a a′ : _) (r r′ : _) (s s′ : _) → Norm-i32 κs a r s → Norm-i32 κs a′ r′ s′ → a .0 ≡ a′ .0 → r ≡ r′
-norm-i32-determined κs a a′ r r′ s s′ p q e = p ∙ ap normOfI32 e ∙ sym q
-
-pub length-determined : (κs : _) (a a′ : _) (r r′ : _) (s s′ : _) → Length κs a r s → Length κs a′ r′ s′ → a .0 ≡ a′ .0 → a .1 .0 ≡ a′ .1 .0 → r ≡ r′
-length-determined κs a a′ r r′ s s′ p q e f = p ∙ ap₂ lengthOf e f ∙ sym q
-
 pub number-determined : (κs : _) (a a′ : _) (r r′ : _) (s s′ : _) → Number κs a r s → Number κs a′ r′ s′ → a .0 ≡ a′ .0 → r ≡ r′
-number-determined κs a a′ r r′ s s′ p q e = p ∙ ap numberOf e ∙ sym q
+number-determined κs a a′ r r′ s s′ p q e = p ∙ ap intersectionNumber e ∙ sym q
 
 pub outside-determined : (κs : _) (a a′ : _) (r r′ : _) (s s′ : _) → Outside κs a r s → Outside κs a′ r′ s′ → a .0 ≡ a′ .0 → r ≡ r′
 outside-determined κs a a′ r r′ s s′ p q e = p ∙ ap outsideOf e ∙ sym q

@@ -6,7 +6,6 @@ use lib.IntN.{ℤ, pos, negsuc}
 use lib.Ieee.{Float, nan, binary64, ofInt, ofBits, add, sub, mul, div, lt, le, ne, neg, toBits}
 use Rattle.point.specs.declared.PointF64.{PointF64}
 use Rattle.point.specs.declared.Refusal.the-variants.{BadPoint}
-use Rattle.sqrt.specs.Root.{rootOf}
 use Rattle.crossing.specs.declared.Intersection.the-variants.{Parallel, Coincide, Cross, Refused}
 use Rattle.crossing.specs.Lines.{crossing}
 use Rattle.crossing.specs.Calls.{intersectionOf}

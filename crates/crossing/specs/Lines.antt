@@ -1,29 +1,11 @@
--- The midpoint of two points, the length of a vector and the crossing of two lines, operation by operation as the Rust computes them (util.rs).
+-- The crossing of two lines, operation by operation as the Rust computes it (util.rs).
 use mathlib.Core.Bool.{Bool, _&&_}
-use lib.IntN.{ℤ, pos, _+ℤ_, _*ℤ_}
-use lib.Ieee.{Float, binary64, ofInt, ofBits, neg, add, sub, mul, div, lt}
+use lib.Ieee.{Float, binary64, ofBits, neg, add, sub, mul, div, lt}
 use Rattle.point.specs.Refusals.{if_then_else_}
-use Rattle.point.specs.declared.PointI32.{PointI32}
 use Rattle.point.specs.declared.PointF64.{PointF64}
-use Rattle.sqrt.specs.Root.{rootOf}
+use Rattle.measures.specs.Lengths.{middle}
 use Rattle.crossing.specs.declared.Intersection.{Intersection}
 use Rattle.crossing.specs.declared.Intersection.the-variants.{Parallel, Coincide, Cross}
-
--- find_mid_point
-abbrev pub half : Float → Float → Float
-half a b = div binary64 (add binary64 a b) (ofInt binary64 (pos 2))
-
-abbrev pub middle : PointF64 → PointF64 → PointF64
-middle p q = record { x = half (p .x) (q .x); y = half (p .y) (q .y) }
-
--- norm
-unfoldable pub lengthOf : Float → Float → Float
-unfolding rootOf
-lengthOf x y = rootOf binary64 (add binary64 (mul binary64 x x) (mul binary64 y y))
-
-unfoldable pub lengthOfI32 : ℤ → ℤ → Float
-unfolding rootOf
-lengthOfI32 x y = rootOf binary64 (ofInt binary64 (x *ℤ x +ℤ y *ℤ y))
 
 -- negligible: between -1e-7 and 1e-7
 abbrev pub tiny : Float

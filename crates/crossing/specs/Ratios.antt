@@ -1,25 +1,9 @@
 -- What a crossing says of its two lines. "The three look at the ratios alone and refuse nothing."
-use Prim.Native.Nat.{ℕ}
 use mathlib.Core.Bool.{Bool, true, false, not, _&&_, _||_}
-use mathlib.Core.List.{List, [], _∷_}
 use lib.IntN.{pos}
 use lib.Ieee.{Float, binary64, ofInt, ofBits, add, sub, lt, ne}
-use Rattle.point.specs.Refusals.{refusalNumber}
 use Rattle.crossing.specs.declared.Intersection.{Intersection}
 use Rattle.crossing.specs.declared.Intersection.the-variants.{Parallel, Coincide, Cross, Refused}
-
--- document 01's number of each case, and the values that it carries
-abbrev pub numberOf : Intersection → ℕ
-numberOf Parallel = 0
-numberOf (Coincide p) = 0
-numberOf (Cross p mua mub) = 0
-numberOf (Refused r) = refusalNumber r
-
-abbrev pub valuesOf : Intersection → List Float
-valuesOf Parallel = []
-valuesOf (Coincide p) = p .x ∷ p .y ∷ []
-valuesOf (Cross p mua mub) = p .x ∷ p .y ∷ mua ∷ mub ∷ []
-valuesOf (Refused r) = []
 
 -- "`outside` uses 1e-3"
 abbrev pub margin : Float

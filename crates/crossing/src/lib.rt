@@ -1,32 +1,13 @@
-// The midpoint of two points, the length of a vector, and the crossing of two lines.
+// The crossing of two lines, and what it says of them.
 //
-// The calls refuse a coordinate out of range. `middle` and `length`, on which other crates build, take any.
-// No call takes more stack than its return address, 8 bytes, the norms with their root too (measured on
-// the x86-64 code).
-mod lines;
-mod measures;
+// The call refuses a coordinate out of range. No call takes more stack than its return address, 8 bytes
+// (measured on the x86-64 code).
 mod ratios;
+mod two_lines;
 
-pub use lines::find_intersection;
-pub use measures::find_mid_point;
-pub use measures::length;
-pub use measures::middle;
-pub use measures::norm;
-pub use measures::norm_i32;
 use point::PointF64;
 use point::Refusal;
-
-// The midpoint of two points.
-pub enum MidPoint {
-    At(PointF64),
-    Refused(Refusal),
-}
-
-// The length of a vector.
-pub enum Measure {
-    Is(f64),
-    Refused(Refusal),
-}
+pub use two_lines::find_intersection;
 
 // Where two lines cross.
 pub enum Intersection {

@@ -1,7 +1,8 @@
 // What a crossing says of its two lines.
 ghost use mathlib.Core.Bool.{_||_};
 ghost use mathlib.Core.Path.{_≡_};
-ghost use Rattle.crossing.specs.Ratios.{numberOf, off, outsideOf, insideOf, coincideOf};
+ghost use Rattle.crossing.specs.Answers.{intersectionNumber};
+ghost use Rattle.crossing.specs.Ratios.{off, outsideOf, insideOf, coincideOf};
 use crate::Intersection;
 
 // How far off its line a ratio may lie.
@@ -10,7 +11,7 @@ const E: f64 = 0.001;
 impl Intersection {
     // Document 01's number.
     pub fn number(self) -> u8
-        ensures { λ r. ⌜ r ≡ numberOf self ⌝ }
+        ensures { λ r. ⌜ r ≡ intersectionNumber self ⌝ }
     {
         match self {
             Intersection::Parallel => 0,

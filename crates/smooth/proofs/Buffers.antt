@@ -1,10 +1,10 @@
 -- Points and flags that are written behind those at the start of a buffer. Assumes nothing.
-use Prim.Native.Nat.{ℕ, suc, _+_, _*_, _<_, _≤_}
+use Prim.Native.Nat.{ℕ, suc, _+_, _*_, _/_, _<_, _≤_}
 use mathlib.Core.List.{List, [], _∷_, _++_, append-assoc, append-nil}
 use mathlib.Core.Path.{_≡_, refl, sym, ap, _∙_}
 use native.Mathlib.Omega.{arith}
 use lib.Ieee.{Float}
-use lib.ListN.{length, set, length-append}
+use lib.ListN.{length, set, length-append, length-set}
 use Rattle.laws.specs.Lists.{over, over-push, over-push-two}
 use Rattle.point.specs.declared.PointF64.{PointF64}
 use Rattle.smooth.specs.Round.{flat}
@@ -40,3 +40,7 @@ flags-behind xs (y ∷ ys) k old e h =
     ap (putFlags (k + 1) ys) (over-push xs old k y e (omega arith))
     ∙ flags-behind (xs ++ (y ∷ [])) ys (k + 1) old e′ (omega arith)
     ∙ ap (λ (l : List ℕ). over l old) (append-assoc xs (y ∷ []) ys)
+
+-- a point's second value has its place, once the first is written
+pub second-place : (out : List Float) (k : ℕ) (x : Float) → k < length out / 2 → k * 2 + 1 < length (set out (k * 2) x)
+second-place out k x h = rw (length-set out (k * 2) x) (omega arith)

@@ -10,12 +10,14 @@ use lib.Ieee.{Float}
 use lib.ListN.{length, set, length-append}
 use Rattle.laws.specs.Lists.{over, over-nil}
 use Rattle.point.specs.declared.PointF64.{PointF64}
-use Rattle.smooth.specs.declared.Settings.{Settings}
+use Rattle.scheme.specs.declared.Settings.{Settings}
 use Rattle.smooth.specs.declared.round.Step.{Step}
 use Rattle.smooth.specs.declared.Subdivided.the-variants.{Done}
-use Rattle.smooth.specs.Round.{placeAt, flat, Made, madeFrom, seen, roundOf, closing}
+use Rattle.round_refusals.specs.Judged.{seen, roomFor}
+use Rattle.scheme.specs.Places.{placeAt}
+use Rattle.smooth.specs.Round.{flat, Made, madeFrom, roundOf, closing}
 use Rattle.smooth.specs.Calls.{handed}
-use Rattle.smooth.specs.Parts.{turnPoints, turnFlags, turnSettled, putPoints, putFlags, roomFor, Turned}
+use Rattle.smooth.specs.Parts.{turnPoints, turnFlags, turnSettled, putPoints, putFlags, Turned}
 use Rattle.smooth.proofs.Turns.{turn-fits, more-points, more-flags, more-finished, flag-each, twice-at-most, flag-for-each}
 use Rattle.smooth.proofs.Buffers.{points-behind, flags-behind}
 
@@ -108,11 +110,12 @@ module _ (list : List Float) (corners : List ℕ) (settings : Settings) (closed 
         pub last-fits : length out ≡ length out₀ → k < length out / 2
         last-fits e = omega (arith, enough, few)
 
-        pub closed-again : (p : PointF64) → p ≡ placeAt list 0 → (out′ : List Float) → out′ ≡ set (set out (k * 2) (p .x)) (k * 2 + 1) (p .y) →
+        pub closed-again : (out′ : List Float) → out′ ≡ set (set out (k * 2) (placeAt list 0 .x)) (k * 2 + 1) (placeAt list 0 .y) →
             record { answer = Done (k + 1) finished; out = out′; flags = flags } ≡ handed (roundOf list corners settings closed) (closing list closed) out₀ flags₀
         unfolding putPoints
-        closed-again p e out′ f =
-            let end : p ∷ [] ≡ closing list closed = rw (c, e) in
+        closed-again out′ f =
+            let p = placeAt list 0 in
+            let end : p ∷ [] ≡ closing list closed = rw c in
             let n : k + 1 ≡ length (made .points ++ (p ∷ [])) = ap (λ (n : ℕ). n + 1) (so .counted) ∙ sym (length-append (made .points) (p ∷ [])) in
             let put : putPoints k (p ∷ []) out ≡ over (flat (made .points ++ (p ∷ []))) out₀
             = ap (putPoints k (p ∷ [])) (so .points) ∙ points-behind (made .points) (p ∷ []) k out₀ (sym (so .counted)) (omega (arith, enough, few)) in

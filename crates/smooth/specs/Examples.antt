@@ -9,8 +9,9 @@ use lib.IntN.{ℤ, pos, negsuc}
 use lib.Ieee.{Float, binary64, ofInt, ofBits, add, sub, mul, div, lt, le, eq, ne, toBits, size, nearest, units}
 use Rattle.point.specs.declared.PointF64.{PointF64}
 use Rattle.sqrt.specs.Root.{rootOf}
-use Rattle.smooth.specs.declared.Settings.{Settings}
-use Rattle.smooth.specs.Round.{enteringBehind, roundOf}
+use Rattle.scheme.specs.declared.Settings.{Settings}
+use Rattle.segments.specs.Segments.{enteringBehind}
+use Rattle.smooth.specs.Round.{roundOf}
 
 abbrev whole : ℤ → Float
 whole n = ofInt binary64 n

@@ -6,29 +6,52 @@
 // A round of n points takes 6 (n - 1) square roots at most: of each segment its length, and where that is
 // over the segment length those of the segments beside it; where a point enters, how far out it lies, and
 // the length of one new segment or both. The Rust takes one more there, since it works out the distance
-// twice. The call takes 344 bytes of stack with its return addresses (measured on the x86-64 code).
-mod refused;
+// twice. The call takes 352 bytes of stack with its return addresses (measured on the x86-64 code).
 mod round;
-mod scheme;
-mod segment;
 
+ghost use mathlib.Core.Path.{_≡_};
+ghost use Rattle.smooth.specs.Answers.{subdividedNumber, subdividedCount, subdividedFinished};
 pub use corners::Pair;
 pub use corners::find_corners;
 use point::Refusal;
 pub use round::subdivide_keep_corners;
-
-// What a round goes by.
-pub struct Settings {
-    // How much farther than outwards from its neighbours a segment reaches: the greater, the less a new
-    // point leaves it.
-    pub ratio: f64,
-    // A segment of at most this length is left as it is.
-    pub length: f64,
-}
+pub use scheme::Settings;
 
 // What a round answers: how many points there are and whether another round would do nothing, or why
 // there is none.
 pub enum Subdivided {
     Done(usize, bool),
     Refused(Refusal),
+}
+
+impl Subdivided {
+    // Document 01's number.
+    pub fn number(self) -> u8
+        ensures { λ r. ⌜ r ≡ subdividedNumber self ⌝ }
+    {
+        match self {
+            Subdivided::Done(_, _) => 0,
+            Subdivided::Refused(refusal) => refusal.number(),
+        }
+    }
+
+    // How many points there are: none when it refused.
+    pub fn count(self) -> usize
+        ensures { λ r. ⌜ r ≡ subdividedCount self ⌝ }
+    {
+        match self {
+            Subdivided::Done(points, _) => points,
+            Subdivided::Refused(_) => 0,
+        }
+    }
+
+    // Whether another round would do nothing: not so when it refused.
+    pub fn finished(self) -> bool
+        ensures { λ r. ⌜ r ≡ subdividedFinished self ⌝ }
+    {
+        match self {
+            Subdivided::Done(_, finished) => finished,
+            Subdivided::Refused(_) => false,
+        }
+    }
 }

@@ -4,17 +4,17 @@ ghost use mathlib.Core.Bool.{false, _&&_};
 ghost use mathlib.Core.Path.{_≡_};
 ghost use lib.Dec.{ltb};
 ghost use lib.ListN.{length, set};
-ghost use Rattle.smooth.specs.Round.{count, seen, after, entered, enteringBehind, roundOf, closing};
+ghost use Rattle.scheme.specs.Places.{count, placeAt};
+ghost use Rattle.round_refusals.specs.Judged.{seen, roomFor};
+ghost use Rattle.smooth.specs.Round.{roundOf, closing};
 ghost use Rattle.smooth.specs.Calls.{handed, subdividedOf};
-ghost use Rattle.smooth.specs.Parts.{roomFor, Turned};
-use crate::Settings;
+ghost use Rattle.smooth.specs.Parts.{Turned};
 use crate::Subdivided;
-use crate::refused::Verdict;
-use crate::refused::judge;
-use crate::segment::Entering;
-use crate::segment::enter;
-use crate::segment::place_at;
 use point::PointF64;
+use round_refusals::Verdict;
+use round_refusals::judge;
+use scheme::Entering;
+use scheme::Settings;
 
 // Puts a list with what enters it at the start of `out`, and a flag for each of its points at the start
 // of `flags`; a closed list's last point, which repeats the first, has none.
@@ -31,22 +31,21 @@ pub fn subdivide_keep_corners(
 {
     match judge(points, corners, settings, closed, out.len(), flags.len()) {
         Verdict::Refused(refusal) => Subdivided::Refused(refusal),
-        Verdict::Fine => round(points, corners, settings, closed, corners.len(), out, flags),
+        Verdict::Fine => round(points, corners, settings, closed, out, flags),
     }
 }
 
-// The same where nothing is refused, for the first `m` points.
+// The same where nothing is refused, for the points that have a flag.
 fn round(
     points: &[f64],
     corners: &[u8],
     settings: Settings,
     closed: bool,
-    m: usize,
     out: &mut [f64],
     flags: &mut [u8],
 ) -> Subdivided
-    requires { ⌜ (m ≡ seen (now points) closed) × (m ≡ length (now corners)) × (m ≤ count (now points)) × ((closed && ltb (count (now points)) 2) ≡ false)
-        × (roomFor closed m ≤ length (now out) / 2) × (roomFor closed m ≤ length (now flags)) ⌝ }
+    requires { ⌜ (length (now corners) ≡ seen (now points) closed) × (length (now corners) ≤ count (now points)) × ((closed && ltb (count (now points)) 2) ≡ false)
+        × (roomFor closed (length (now corners)) ≤ length (now out) / 2) × (roomFor closed (length (now corners)) ≤ length (now flags)) ⌝ }
     ensures { λ r. ⌜ record { answer = r; out = now (out .exit); flags = now (flags .exit) }
         ≡ handed (roundOf (now (points .entry)) (now (corners .entry)) settings closed) (closing (now (points .entry)) closed)
         (now (out .entry)) (now (flags .entry)) ⌝ }
@@ -54,14 +53,14 @@ fn round(
     let mut finished = true;
     let mut k = 0;
     let mut i = 0;
-    while i < m {
-        let t = turn(points, corners, settings, closed, m, i, k, out, flags);
+    while i < corners.len() {
+        let t = turn(points, corners, settings, closed, i, k, out, flags);
         i += 1;
         k = t.k;
         finished = both(finished, t.settled);
     }
     if closed {
-        put(place_at(points, 0), k, out);
+        copy(points, 0, k, out);
         return Subdivided::Done(k + 1, finished);
     }
     Subdivided::Done(k, finished)
@@ -86,27 +85,25 @@ fn turn(
     corners: &[u8],
     settings: Settings,
     closed: bool,
-    m: usize,
     i: usize,
     k: usize,
     out: &mut [f64],
     flags: &mut [u8],
 ) -> Step
-    requires { ⌜ (i < m) × (m ≡ length (now corners)) × (m ≤ count (now points)) × (k ≤ i * 2)
-        × (roomFor closed m ≤ length (now out) / 2) × (roomFor closed m ≤ length (now flags)) ⌝ }
-    ensures { λ r. ⌜ Turned (now (points .entry)) (now (corners .entry)) settings closed m i k
+    requires { ⌜ (i < length (now corners)) × (length (now corners) ≤ count (now points)) × (k ≤ i * 2)
+        × (roomFor closed (length (now corners)) ≤ length (now out) / 2) × (roomFor closed (length (now corners)) ≤ length (now flags)) ⌝ }
+    ensures { λ r. ⌜ Turned (now (points .entry)) (now (corners .entry)) settings closed (length (now (corners .entry))) i k
         (now (out .entry)) (now (flags .entry)) r (now (out .exit)) (now (flags .exit)) ⌝ }
 {
-    put(place_at(points, i), k, out);
+    copy(points, i, k, out);
     flags[k] = corners[i];
-    match enter_behind(points, corners, settings, closed, m, i) {
+    match segments::enter_behind(points, corners, settings, closed, i) {
         Entering::Nothing => Step {
             k: k + 1,
             settled: true,
         },
         Entering::Point(p, settled) => {
-            put(p, k + 1, out);
-            flags[k + 1] = 0;
+            put(p, k + 1, out, flags);
             Step {
                 k: k + 2,
                 settled: settled,
@@ -115,35 +112,26 @@ fn turn(
     }
 }
 
-// What enters behind the point at `i`. No segment leaves the last point of an open list.
-fn enter_behind(
-    points: &[f64],
-    corners: &[u8],
-    settings: Settings,
-    closed: bool,
-    m: usize,
-    i: usize,
-) -> Entering
-    requires { ⌜ (i < m) × (m ≡ length (now corners)) × (m ≤ count (now points)) ⌝ }
-    ensures { λ r. ⌜ r ≡ entered (now (points .entry)) settings i (after closed m i)
-        (enteringBehind (now (points .entry)) (now (corners .entry)) settings closed m i) ⌝ }
+// Writes the point at `i` at a position.
+fn copy(points: &[f64], i: usize, k: usize, out: &mut [f64])
+    requires { ⌜ (i < count (now points)) × (k < length (now out) / 2) ⌝ }
+    ensures { λ _. ⌜ now (out .exit)
+        ≡ set (set (now (out .entry)) (k * 2) (placeAt (now (points .entry)) i .x)) (k * 2 + 1) (placeAt (now (points .entry)) i .y) ⌝ }
 {
-    if i + 1 < m {
-        return enter(points, corners, settings, closed, m, i, i + 1);
-    }
-    if closed {
-        return enter(points, corners, settings, closed, m, i, 0);
-    }
-    Entering::Nothing
+    let x = points[i * 2];
+    let y = points[i * 2 + 1];
+    out[k * 2] = x;
+    out[k * 2 + 1] = y;
 }
 
-// Writes a point at a position.
-fn put(p: PointF64, k: usize, out: &mut [f64])
-    requires { ⌜ k < length (now out) / 2 ⌝ }
-    ensures { λ _. ⌜ now (out .exit) ≡ set (set (now (out .entry)) (k * 2) (p .x)) (k * 2 + 1) (p .y) ⌝ }
+// Writes a new point at a position; it is no corner.
+fn put(p: PointF64, k: usize, out: &mut [f64], flags: &mut [u8])
+    requires { ⌜ (k < length (now out) / 2) × (k < length (now flags)) ⌝ }
+    ensures { λ _. ⌜ (now (out .exit) ≡ set (set (now (out .entry)) (k * 2) (p .x)) (k * 2 + 1) (p .y)) × (now (flags .exit) ≡ set (now (flags .entry)) k 0) ⌝ }
 {
     let x = p.x;
     let y = p.y;
     out[k * 2] = x;
     out[k * 2 + 1] = y;
+    flags[k] = 0;
 }

@@ -1,18 +1,21 @@
 // Signed area, midpoint, norm and the crossing of two lines.
 //
-// The cross product and the area stand here, and the rest, which has fractions, in `crossing`. The cross
-// product and the area take no stack but their return address (measured on the x86-64 code).
+// The cross product and the area stand here, the midpoint and the norm, which have fractions, in `measures`,
+// and the crossing in `crossing`. The cross product and the area take no stack but their return address
+// (measured on the x86-64 code).
 mod turning;
 
+ghost use mathlib.Core.Path.{_≡_};
+ghost use Rattle.util.specs.Answers.{signedNumber};
 pub use crossing::Intersection;
-pub use crossing::Measure;
-pub use crossing::MidPoint;
 pub use crossing::find_intersection;
-pub use crossing::find_mid_point;
-pub use crossing::length;
-pub use crossing::middle;
-pub use crossing::norm;
-pub use crossing::norm_i32;
+pub use measures::Measure;
+pub use measures::MidPoint;
+pub use measures::find_mid_point;
+pub use measures::length;
+pub use measures::middle;
+pub use measures::norm;
+pub use measures::norm_i32;
 use point::Refusal;
 pub use turning::cross;
 pub use turning::signed_area;
@@ -21,4 +24,16 @@ pub use turning::signed_area;
 pub enum Signed {
     Area(i32),
     Refused(Refusal),
+}
+
+impl Signed {
+    // Document 01's number.
+    pub fn number(self) -> u8
+        ensures { λ r. ⌜ r ≡ signedNumber self ⌝ }
+    {
+        match self {
+            Signed::Area(_) => 0,
+            Signed::Refused(refusal) => refusal.number(),
+        }
+    }
 }

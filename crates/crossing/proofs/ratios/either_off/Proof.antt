@@ -1,6 +1,6 @@
 -- `crossing::either_off` meets its contract: its two tests, joined. Assumes nothing.
 use borrow.Author.Needs.{needs}
-use Rattle.crossing.proofs.Joined.{joined}
+use Rattle.measures.proofs.Joined.{joined}
 use Rattle.crossing.proofs.ratios.either_off.Statement.{statement}
 use Rattle.crossing.proofs.ratios.either_off.Tie as tie
 

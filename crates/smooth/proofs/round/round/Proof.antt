@@ -12,18 +12,18 @@ use lib.ListN.{length}
 use borrow.Author.Needs.{needs}
 use borrow.Author.Tests.{ltb-false}
 use Rattle.laws.specs.Joined.{and-second}
-use Rattle.smooth.specs.Round.{count}
-use Rattle.smooth.specs.Parts.{roomFor}
+use Rattle.scheme.specs.Places.{count}
+use Rattle.round_refusals.specs.Judged.{roomFor}
 use Rattle.smooth.proofs.SoFar.{SoFar, begun, few, turned, ended, last-fits, closed-again}
 use Rattle.smooth.proofs.round.round.Statement.{statement}
 use Rattle.smooth.proofs.round.round.Tie as tie
 
 abbrev Inv-loop : tie.InvT-loop
-Inv-loop points corners settings closed m out₀ flags₀ finished₀ k₀ i₀ out flags finished k i =
-    (i ≤ m) × (length out ≡ length out₀) × (length flags ≡ length flags₀) × SoFar points corners settings closed m out₀ flags₀ i k finished out flags
+Inv-loop points corners settings closed out₀ flags₀ finished₀ k₀ i₀ out flags finished k i =
+    (i ≤ length corners) × (length out ≡ length out₀) × (length flags ≡ length flags₀) × SoFar points corners settings closed (length corners) out₀ flags₀ i k finished out flags
 
 abbrev μ-loop : tie.MeasureT-loop
-μ-loop points corners settings closed m out₀ flags₀ finished₀ k₀ i₀ out flags finished k i = m - i
+μ-loop points corners settings closed out₀ flags₀ finished₀ k₀ i₀ out flags finished k i = length corners - i
 
 -- the room is that of the start
 module _ (closed : Bool) (m : ℕ) where
@@ -55,8 +55,7 @@ round-spec =
     (λ c κs. search laws)  -- both-requires
     (λ c. search laws)  -- loop-less
     (λ c. search laws)  -- loop-again
-    (λ c κs. search laws)  -- place-at-requires
-    (λ c κs. search laws)  -- put-requires
+    (λ c κs. search laws)  -- copy-requires
     (λ c. search laws)  -- add-t22
     (λ c. search laws)  -- same-length
     (λ c. search laws)  -- same-length-2

@@ -2,7 +2,8 @@
 use Prim.Native.Nat.{ℕ}
 use mathlib.Core.Path.{_≡_, refl}
 use borrow.Author.Needs.{needs}
-use Rattle.smooth.proofs.Verdicts.{not-few, so-many, at-most, enough, enough-flags, refused-outcome, done-outcome}
+use Rattle.round_refusals.proofs.Verdicts.{not-few, so-many, at-most, enough, enough-flags}
+use Rattle.smooth.proofs.Verdicts.{refused-outcome, done-outcome}
 use Rattle.smooth.proofs.round.subdivide_keep_corners.Statement.{statement}
 use Rattle.smooth.proofs.round.subdivide_keep_corners.Tie as tie
 

@@ -1,0 +1,18 @@
+-- `round_refusals::too_few` meets its contract: its two tests, joined. Assumes nothing.
+use Prim.Native.Nat.{ℕ}
+use mathlib.Core.Bool.{Bool, true, _&&_}
+use mathlib.Core.Path.{_≡_}
+use lib.Dec.{ltb}
+use borrow.Author.Needs.{needs}
+use Rattle.laws.specs.Joined.{and-itself, and-second}
+use Rattle.round_refusals.proofs.tests.too_few.Statement.{statement}
+use Rattle.round_refusals.proofs.tests.too_few.Tie as tie
+
+ruleset laws = (and-itself, and-second, needs)
+
+pub too-few-spec : {M : Type 1} → statement M
+too-few-spec =
+    tie.close
+    (tie.spec
+    (λ c. search laws)  -- returns
+    (λ c. search laws))  -- returns-2

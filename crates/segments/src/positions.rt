@@ -1,0 +1,58 @@
+// Positions of a list of points, and the points there.
+ghost use Prim.Native.Nat.{_<_};
+ghost use mathlib.Core.Bool.{_&&_};
+ghost use mathlib.Core.Path.{_≡_};
+ghost use lib.Dec.{eqb};
+ghost use lib.ListN.{length};
+ghost use Rattle.point.specs.Refusals.{if_then_else_};
+ghost use Rattle.scheme.specs.Places.{count, placeAt};
+ghost use Rattle.segments.specs.Segments.{isCorner, prevOf, nextOf};
+use point::PointF64;
+
+// The neighbour that counts on the far side of a segment's end: of a corner it is the corner itself.
+pub(crate) fn kept(corners: &[u8], at: usize, neighbour: usize) -> usize
+    requires { ⌜ (at < length (now corners)) × (neighbour < length (now corners)) ⌝ }
+    ensures { λ r. ⌜ (r ≡ (if isCorner (now (corners .entry)) at then at else neighbour)) × (r < length (now (corners .entry))) ⌝ }
+{
+    if corners[at] == 1 { at } else { neighbour }
+}
+
+// Whether two positions are two others.
+pub(crate) fn are(a: usize, b: usize, c: usize, d: usize) -> bool
+    ensures { λ r. ⌜ r ≡ (eqb a b && eqb c d) ⌝ }
+{
+    a == b && c == d
+}
+
+// The point at a position.
+pub(crate) fn place_at(points: &[f64], k: usize) -> PointF64
+    requires { ⌜ k < count (now points) ⌝ }
+    ensures { λ r. ⌜ r ≡ placeAt (now (points .entry)) k ⌝ }
+{
+    PointF64 {
+        x: points[k * 2],
+        y: points[k * 2 + 1],
+    }
+}
+
+// The neighbour before a segment from `i`; at an open end it is the end itself.
+pub(crate) fn prev_of(closed: bool, m: usize, i: usize) -> usize
+    requires { ⌜ i < m ⌝ }
+    ensures { λ r. ⌜ (r ≡ prevOf closed m i) × (r < m) ⌝ }
+{
+    if i != 0 {
+        return i - 1;
+    }
+    if closed { m - 1 } else { i }
+}
+
+// The neighbour behind a segment to `j`.
+pub(crate) fn next_of(closed: bool, m: usize, j: usize) -> usize
+    requires { ⌜ j < m ⌝ }
+    ensures { λ r. ⌜ (r ≡ nextOf closed m j) × (r < m) ⌝ }
+{
+    if j + 1 != m {
+        return j + 1;
+    }
+    if closed { 0 } else { j }
+}
