@@ -1,27 +1,17 @@
 -- `limit_penalties` as code walks along a list: the test for the position right after the last one kept is met at the first position
--- alone, and the last position of all is kept at the end. So it keeps no more points than it is handed, but one point twice; and the
--- greatest penalty is worked out position by position. Assumes nothing.
+-- alone, and the last position of all is kept at the end. So it keeps no more points than it is handed, but one point twice. Assumes nothing.
 use Prim.Native.Nat.{ℕ, zero, suc, _+_, _-_, _<_, _≤_}
 use mathlib.Core.Bool.{Bool, true, false}
 use mathlib.Core.List.{List, [], _∷_, _++_}
 use mathlib.Core.Path.{_≡_, refl, sym, ap, _∙_}
 use native.Mathlib.Numerals.{add-one}
 use native.Mathlib.Omega.{arith}
-use lib.Ieee.{Float, lt}
 use lib.ListN.{length, length-append}
 use borrow.Author.Tests.{eq-eqb, ne-eqb}
 use Rattle.point.specs.Limits.{placesFor}
-use Rattle.point.specs.Refusals.{if_then_else_}
 use Rattle.point.specs.declared.PointI32.{PointI32}
 use Rattle.outline.proofs.Room.{places-many}
-use Rattle.penalties.specs.Penalties.{greatest, at, tooCostly, closing, limitFrom, limited, pick, limitPenalties}
-
--- ---- the greatest of some values: that at k is looked at
-
-pub one-looked-at : (f : ℕ → Float) (to k : ℕ) (m : Float) → k < to →
-    greatest f (to - k) k m ≡ greatest f (to - (k + 1)) (k + 1) (if lt m (f k) then f k else m)
-unfolding greatest
-one-looked-at f to k m h = let e : to - k ≡ suc (to - suc k) = omega arith in rw (e, add-one, greatest)
+use Rattle.penalties.specs.Penalties.{at, tooCostly, closing, limitFrom, limited, pick, limitPenalties}
 
 -- ---- which of the n positions from i on are kept, after `last` and before the last of all
 

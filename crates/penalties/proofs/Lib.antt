@@ -1,2 +1,3 @@
 pub mod Costly
+pub mod Reached
 pub mod Claims

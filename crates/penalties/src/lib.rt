@@ -2,8 +2,8 @@
 // of the area of its triangle over the side that takes its place.
 //
 // Lists of points are x, y, x, y, in lent slices; counts are points. Refusals are judged first, and
-// then nothing can fail. It takes 136 bytes of stack (measured on the x86-64 code, with the return
-// address).
+// then nothing can fail. It takes 152 bytes of stack (measured on the x86-64 code, with the return
+// addresses).
 mod costs;
 mod triangle;
 
@@ -16,7 +16,7 @@ ghost use Rattle.point.specs.Points.{points as pointsOf};
 ghost use Rattle.outline.specs.Points.{count};
 ghost use Rattle.outline.specs.Written.{Handed};
 ghost use Rattle.penalties.specs.Penalties.{limitPenalties, penaltiesOf};
-use costs::too_costly;
+use costs::past_delta;
 use outline::point_at;
 use outline::put;
 use passes::Verdict;
@@ -68,7 +68,7 @@ fn keep_many(points: &[i32], out: &mut [i32]) -> usize
     let mut last = 0;
     let mut i = 2;
     while i < n {
-        let costly = too_costly(points, last, i);
+        let costly = past_delta(points, last, i);
         i += 1;
         if costly {
             last = i - 2;

@@ -90,7 +90,7 @@ keep-many-spec =
     (λ c κs. search needs)  -- point-at-requires
     (λ c κs. search needs)  -- put-requires
     (λ c. search (started, needs))  -- loop-holds
-    (λ c κs. search needs)  -- too-costly-requires
+    (λ c κs. search needs)  -- past-delta-requires
     (λ c. search needs)  -- add-i
     (λ c. search needs)  -- sub-last
     (λ c κs. search needs)  -- point-at-requires-2
@@ -99,7 +99,7 @@ keep-many-spec =
     (λ c. search needs)  -- loop-less
     (λ c. search (kept-one, needs))  -- loop-again
     (λ c. search needs)  -- loop-less-2
-    (λ c. (search needs, search needs, search needs, dropped-one _ _ _ _ _ _ (c .before .before .before .loop .inv .3) _ (c .before .too-costly .ensures) (c .before .before .loop-test .taken) (c .if1 .left)))  -- loop-again-2
+    (λ c. (search needs, search needs, search needs, dropped-one _ _ _ _ _ _ (c .before .before .before .loop .inv .3) _ (c .before .past-delta .ensures) (c .before .before .loop-test .taken) (c .if1 .left)))  -- loop-again-2
     (λ c. search needs)  -- sub-point-at
     (λ c κs. search needs)  -- point-at-requires-3
     (λ c κs. search needs)  -- put-requires-3

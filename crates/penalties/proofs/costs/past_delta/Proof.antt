@@ -1,41 +1,50 @@
--- `penalties::past_delta` meets its contract. The loop's invariant: the greatest of `most` and of the penalties from `k` on is the greatest
--- of all. Assumes nothing.
-use Prim.Native.Nat.{ℕ, _+_, _-_, _<_, _≤_}
+-- `penalties::past_delta` meets its contract. The loop's invariant: whether one of the penalties from `k` on reaches the tolerance is what the
+-- greatest of all says. Assumes nothing.
+use Prim.Native.Nat.{ℕ, suc, _+_, _-_, _<_, _≤_}
+use mathlib.Core.Bool.{Bool, true, false}
 use mathlib.Core.List.{List}
-use mathlib.Core.Path.{_≡_, sym, ap, _∙_}
+use mathlib.Core.Path.{_≡_, refl, sym, ap, _∙_}
 use native.Mathlib.Numerals.{add-one}
 use native.Mathlib.Omega.{arith}
 use lib.IntN.{ℤ, pos}
-use lib.Ieee.{Float, binary64, ofBits, ofInt, lt}
+use lib.Ieee.{Float, binary64, ofInt, lt}
 use borrow.Author.Needs.{needs}
+use Rattle.laws.specs.Finite.{ofInt-nonneg}
+use Rattle.laws.specs.Order.{at-least-zero}
 use Rattle.point.specs.Points.{points}
-use Rattle.point.specs.Refusals.{if_then_else_}
 use Rattle.point.specs.declared.PointI32.{PointI32}
 use Rattle.outline.specs.Points.{count, pointAt}
 use Rattle.outline.proofs.Flat.{points-at}
 use Rattle.passes.proofs.Within.{limit-x, limit-y}
-use Rattle.penalties.specs.Penalties.{penalty, greatest, at, pastDelta}
-use Rattle.penalties.proofs.Costly.{one-looked-at}
+use Rattle.penalties.specs.Penalties.{penalty, at, pastDelta, tooCostly}
+use Rattle.penalties.specs.Parts.{reaches}
+use Rattle.penalties.proofs.Reached.{someReaches, reached-by-one, hit, passed, none-left}
 use Rattle.penalties.proofs.costs.past_delta.Statement.{statement}
 use Rattle.penalties.proofs.costs.past_delta.Tie as tie
 
--- the penalty of a position, and the greatest of those from k on and of `most`
+-- the penalty of a position, and whether one of those from k on reaches the tolerance
 abbrev costOf : List ℤ → ℕ → ℕ → ℕ → Float
 costOf list from to k = penalty (at (points list) from) (at (points list) k) (at (points list) to)
 
-unfoldable rest : List ℤ → ℕ → ℕ → ℕ → Float → Float
-rest list from to k most = greatest (costOf list from to) (to - k) k most
+unfoldable rest : List ℤ → ℕ → ℕ → ℕ → Bool
+rest list from to k = someReaches (costOf list from to) (to - k) k
 
 abbrev Inv-loop : tie.InvT-loop
-Inv-loop list from to a c l3 most₀ k₀ most k = (from < k) × (k ≤ to) × (rest list from to k most ≡ pastDelta (points list) from to)
+Inv-loop list from to a c l3 k₀ k = (from < k) × (k ≤ to) × (rest list from to k ≡ tooCostly (points list) from to)
 
 abbrev μ-loop : tie.MeasureT-loop
-μ-loop list from to a c l3 most₀ k₀ most k = to - k
+μ-loop list from to a c l3 k₀ k = to - k
+
+below-one : lt (ofInt binary64 (pos 0)) (ofInt binary64 (pos 1)) ≡ true
+unfolding ofInt lt
+below-one = refl
 
 module _ (list : List ℤ) (from to : ℕ) where
-  started : rest list from to (from + 1) (ofBits binary64 0) ≡ pastDelta (points list) from to
-  unfolding rest pastDelta ofBits ofInt
-  started = rw add-one
+  started : rest list from to (from + 1) ≡ tooCostly (points list) from to
+  unfolding rest tooCostly pastDelta reaches
+  started =
+      rw add-one
+      (sym (reached-by-one (costOf list from to) (to - suc from) (suc from) (ofInt binary64 (pos 0)) (at-least-zero (ofInt-nonneg (pos 0) tt)) below-one))
 
   -- a point of the list
   placed : (p : PointI32) (k : ℕ) → p ≡ pointAt list k → k < count list → p ≡ at (points list) k
@@ -50,18 +59,19 @@ module _ (list : List ℤ) (from to : ℕ) where
       ∙ ap (λ (p : PointI32). penalty (at (points list) from) p c) (placed b k eb (omega arith))
       ∙ ap (λ (p : PointI32). penalty (at (points list) from) (at (points list) k) p) (placed c to ec g)
 
-  turn : (k : ℕ) (most cost next : Float) → rest list from to k most ≡ pastDelta (points list) from to →
-      next ≡ (if lt most cost then cost else most) → cost ≡ costOf list from to k → k < to →
-      rest list from to (k + 1) next ≡ pastDelta (points list) from to
-  unfolding rest
-  turn k most cost next inv e is h =
-      ap (λ (v : Float). greatest (costOf list from to) (to - (k + 1)) (k + 1) v) (e ∙ ap (λ (v : Float). if lt most v then v else most) is)
-      ∙ sym (one-looked-at (costOf list from to) to k most h)
-      ∙ inv
+  module _ (k : ℕ) (inv : rest list from to k ≡ tooCostly (points list) from to) where
+    module _ (r : Bool) (cost : Float) (says : r ≡ reaches cost) (is : cost ≡ costOf list from to k) (h : k < to) where
+      costs : r ≡ true → true ≡ tooCostly (points list) from to
+      unfolding rest
+      costs e = sym (hit (costOf list from to) to k h (ap reaches (sym is) ∙ sym says ∙ e)) ∙ inv
 
-  ended : (k : ℕ) (most : Float) → rest list from to k most ≡ pastDelta (points list) from to → to ≤ k → most ≡ pastDelta (points list) from to
-  unfolding rest greatest
-  ended k most inv h = let e : to - k ≡ 0 = omega arith in rw e at inv
+      goes-on : r ≡ false → rest list from to (k + 1) ≡ tooCostly (points list) from to
+      unfolding rest
+      goes-on e = sym (passed (costOf list from to) to k h (ap reaches (sym is) ∙ sym says ∙ e)) ∙ inv
+
+    ended : to ≤ k → false ≡ tooCostly (points list) from to
+    unfolding rest
+    ended h = sym (none-left (costOf list from to) to k h) ∙ inv
 
 ruleset laws = (limit-x, limit-y, needs)
 
@@ -77,9 +87,10 @@ past-delta-spec =
     (λ c. search laws)  -- add-k
     (λ c. (search needs, search needs, started _ _ _))  -- loop-holds
     (λ c κs. search laws)  -- point-at-requires-3
-    (λ c κs. search laws)  -- evaluate-penalty-requires
-    (λ c κs. search laws)  -- greater-requires
     (λ c. search laws)  -- add-k-2
+    (λ c κs. search laws)  -- evaluate-penalty-requires
+    (λ c κs. search laws)  -- reaches-requires
+    (λ c. search (costs, worked-out, needs))  -- returns
     (λ c. search laws)  -- loop-less
-    (λ c. search (turn, worked-out, needs))  -- loop-again
-    (λ c. search (ended, needs)))  -- returns
+    (λ c. search (goes-on, worked-out, needs))  -- loop-again
+    (λ c. search (ended, needs)))  -- returns-2
