@@ -6,7 +6,7 @@ use mathlib.Core.Option.{Option, some, none}
 use mathlib.Core.Path.{_≡_, refl, sym, ap, _∙_}
 use native.Mathlib.Omega.{arith}
 use lib.Dec.{leb}
-use lib.ListN.{length, take, drop, replicate, length-take, length-replicate}
+use lib.ListN.{length, take, drop, replicate, length-replicate}
 use lib.Seq.{take-append-seam}
 use borrow.Author.Tests.{leb-true, leb-false, lt-ltb}
 use Rattle.laws.specs.If.{if_then_else_}
@@ -15,7 +15,7 @@ use Rattle.lists.specs.Lists.{bytesOf, readInto}
 use Rattle.lists.specs.declared.Read.{Read}
 use Rattle.lists.specs.declared.Read.the-variants as Read
 use Rattle.texts.specs.Put.{Outcome, put}
-use Rattle.frames.specs.Frame.{requestIn}
+use Rattle.requests.specs.Frame.{requestIn}
 use Rattle.frames.specs.Reply.{badReply, replyTo, bytesReply, answerTo}
 
 abbrev isNot : Read → ℕ
@@ -71,9 +71,6 @@ module _ (line to : List ℕ) (a : Read) (is : record { answer = a; to = to } �
 
     pub in-array : length to ≡ 16384 → n ≤ length to
     in-array l = omega (arith, read .0)
-
-    pub no-longer : length (take (n - 0) to) ≤ 16384
-    no-longer = omega (arith, length-take (n - 0) to, read .0)
 
     pub a-frame : (o : Outcome) (out : List ℕ) (at : ℕ) → o ≡ put (replyTo (requestIn (take (n - 0) to))) out at → o ≡ put (answerTo line) out at
     a-frame o out at p =

@@ -1,5 +1,3 @@
-pub mod Values
-pub mod Room
-pub mod Requests
 pub mod Bytes
+pub mod Arms
 pub mod Claims

@@ -1,4 +1,4 @@
--- What the crate promises: `Frame` says what a frame asks for, `Reply` what it is answered.
-pub mod Frame
+-- What the crate promises: `Reply` says what a line is answered. What a frame asks for is `Frame` of `requests`; what a call is answered is
+-- `Reply` of `walk_reply`, `simplify_reply` and `reduce_reply`.
 pub mod Reply
 pub mod Examples

@@ -1,12 +1,15 @@
 // A line, and what it is answered.
 ghost use mathlib.Core.Path.{_≡_};
 ghost use Rattle.texts.specs.Put.{put};
-ghost use Rattle.frames.specs.Reply.{answerTo, badReply};
-use crate::kinds::reply;
+ghost use Rattle.requests.specs.Frame.{requestIn};
+ghost use Rattle.frames.specs.Reply.{answerTo, replyTo, badReply};
 use lists::Read;
+use requests::Asked;
 
-// The most bytes of a frame.
+// The most bytes of a frame, and the most values of its points.
 const MOST: usize = 16384;
+
+const VALUES: usize = 8190;
 
 // Puts the answer to a line at a place of `out`, with no end of line, and answers the place behind it.
 // Where it does not fit, nothing is written and the place itself is answered.
@@ -20,8 +23,32 @@ pub fn answer(line: &[u8], out: &mut [u8], at: usize) -> usize
     }
 }
 
+// Puts the answer to a frame.
+fn reply(frame: &[u8], out: &mut [u8], at: usize) -> usize
+    ensures { λ r. ⌜ record { next = r; out = now (out .exit) }
+        ≡ put (replyTo (requestIn (now (frame .entry)))) (now (out .entry)) at ⌝ }
+{
+    let mut points = [0i32; VALUES];
+    match requests::request(frame, &mut points) {
+        Asked::Walk(clockwise, chart, start) => {
+            walk_reply::put_walk(chart, &frame[10..], start, clockwise, out, at)
+        }
+        Asked::Simplify(clockwise, n) => simplify_reply::put_simplified(
+            &points[0..n],
+            clockwise,
+            out,
+            at,
+        ),
+        Asked::Reduce(tolerance, n) => {
+            reduce_reply::put_reduced(&points[0..n], tolerance as f64 / 16.0, out, at)
+        }
+        Asked::Numbers(n) => reduce_reply::put_numbered(&points[0..n], out, at),
+        Asked::NoFrame => bad(out, at),
+    }
+}
+
 // The answer to what is no frame.
-pub(crate) fn bad(out: &mut [u8], at: usize) -> usize
+fn bad(out: &mut [u8], at: usize) -> usize
     ensures { λ r. ⌜ record { next = r; out = now (out .exit) } ≡ put badReply (now (out .entry)) at ⌝ }
 {
     texts::put_bytes(b"ff0b0000", out, at)

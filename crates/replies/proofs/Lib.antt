@@ -1,3 +1,4 @@
 pub mod Behind
 pub mod Sizes
+pub mod Parts
 pub mod Claims

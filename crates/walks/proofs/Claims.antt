@@ -1,4 +1,4 @@
--- What follows of the definition of a walk, for its readers. Assumes nothing.
+-- What follows of the contracts, and of the definition of a walk, for their readers and their callers. Assumes nothing.
 use Prim.Native.Nat.{ℕ, _+_, _*_, _≤_, _<_}
 use mathlib.Core.Bool.{Bool, true, false, not, _&&_, true≢false}
 use mathlib.Core.List.{List, _∷_}
@@ -18,6 +18,7 @@ use Rattle.point.specs.declared.Refusal.the-variants.{BadSize, BadPoint}
 use Rattle.bitmap.specs.Pixels.{badChart, pixelAt, aroundOf}
 use Rattle.bitmap.specs.declared.Chart.{Chart}
 use Rattle.walks.specs.Walk.{Pixels, Way, Walker, exit, taken, atStart, moved, ends, run, Walk, closed, no-way, stuck, after, walkFrom, Outcome, laid, ended, refusal, outcome, walked}
+use Rattle.walks.specs.Answers.{walkedNumber, walkedCount}
 use Rattle.walks.specs.Course.{firstExit, wentOn}
 use Rattle.walks.specs.declared.Walked.{Walked}
 use Rattle.walks.specs.declared.Walked.the-variants.{Done, NoWay, Stuck, Refused}
@@ -27,6 +28,16 @@ use Rattle.walks.proofs.Runs.{placed}
 use Rattle.walks.proofs.Follow.{whole-run, follow-is, on-edge}
 use Rattle.walks.proofs.Outcome.{found, from-none, from-some, always-found}
 use Rattle.walks.proofs.Edges.{room-most, on-lattice}
+use Rattle.walks.proofs.Walked.number.Reads.{Post as Walked-number}
+use Rattle.walks.proofs.Walked.count.Reads.{Post as Walked-count}
+
+-- ---- each contract leaves no choice: of equal arguments it allows one result. `Post` is the contract itself, as Rattle reads it off the source.
+
+pub walked-number-determined : (κs : _) (a a′ : _) (r r′ : _) (s s′ : _) → Walked-number κs a r s → Walked-number κs a′ r′ s′ → a .0 ≡ a′ .0 → r ≡ r′
+walked-number-determined κs a a′ r r′ s s′ p q e = p ∙ ap walkedNumber e ∙ sym q
+
+pub walked-count-determined : (κs : _) (a a′ : _) (r r′ : _) (s s′ : _) → Walked-count κs a r s → Walked-count κs a′ r′ s′ → a .0 ≡ a′ .0 → r ≡ r′
+walked-count-determined κs a a′ r r′ s s′ p q e = p ∙ ap walkedCount e ∙ sym q
 
 -- ---- Where a walk comes, and that it goes on: "the first exit not leading to `prev` or `prev_prev`" is there after every step, so that no
 -- walk but one that has not begun finds no way.
@@ -69,12 +80,6 @@ isDone NoWay = 0
 isDone Stuck = 0
 isDone (Refused r) = 0
 
-abbrev pointsIn : Walked → ℕ
-pointsIn (Done n) = n
-pointsIn NoWay = 0
-pointsIn Stuck = 0
-pointsIn (Refused r) = 0
-
 not-done : (a : Walked) (n : ℕ) → isDone a ≡ 0 → a ≡ Done n → ⊥
 not-done a n z e = omega (arith, sym z ∙ ap isDone e)
 
@@ -100,7 +105,7 @@ module _ (c : Chart) (pixels : List ℕ) (start : PointI32) (cw : Bool) (out : L
   laid-fits : (ps : List PointI32) (full : Bool) (n : ℕ) → ltb (length out) (length ps * 2) ≡ full → laid ps out full .answer ≡ Done n → n * 2 ≤ length out
   laid-fits ps true n f e = absurd (not-done (laid ps out true .answer) n refl e)
   laid-fits ps false n f e =
-      let m : length ps ≡ n = ap pointsIn e in
+      let m : length ps ≡ n = ap walkedCount e in
       omega (arith, ltb-false (length out) (length ps * 2) f)
 
   ended-fits : (w : Walk) (n : ℕ) → ended w out .answer ≡ Done n → n * 2 ≤ length out

@@ -1,5 +1,6 @@
--- What the crate promises: `Walk` says what the outline of a chart is: read it first. `Course` is the walk as the code follows it, for the
--- private functions.
+-- What the crate promises: `Walk` says what the outline of a chart is: read it first. `Answers` gives the number and the count of what a
+-- walk answers. `Course` is the walk as the code follows it, for the private functions of `walker`.
 pub mod Walk
+pub mod Answers
 pub mod Course
 pub mod Examples

@@ -1,6 +1,9 @@
-// What the outline of a chart is, and laws on the walk along it.
+// What the outline of a chart is, what a walk answers, and laws on the walk along it.
 //
-// No code: the definitions are in specs/, the laws in proofs/. The call is `walk` of `walker`.
+// The definitions are in specs/, the laws in proofs/. The call is `walk` of `walker`: the code here is
+// the number and the count of its answer.
+ghost use mathlib.Core.Path.{_≡_};
+ghost use Rattle.walks.specs.Answers.{walkedNumber, walkedCount};
 use point::Refusal;
 
 // What a walk answers: how many points its outline has, or why there is none.
@@ -11,6 +14,32 @@ pub enum Walked {
     // After some run the walk has over 1,000,000 steps.
     Stuck,
     Refused(Refusal),
+}
+
+impl Walked {
+    // The answer's number in document 01: 0 when it is done.
+    pub fn number(self) -> u8
+        ensures { λ r. ⌜ r ≡ walkedNumber self ⌝ }
+    {
+        match self {
+            Walked::Done(_) => 0,
+            Walked::NoWay => 8,
+            Walked::Stuck => 9,
+            Walked::Refused(refusal) => refusal.number(),
+        }
+    }
+
+    // How many points its outline has: none when there is no outline.
+    pub fn count(self) -> usize
+        ensures { λ r. ⌜ r ≡ walkedCount self ⌝ }
+    {
+        match self {
+            Walked::Done(points) => points,
+            Walked::NoWay => 0,
+            Walked::Stuck => 0,
+            Walked::Refused(_) => 0,
+        }
+    }
 }
 
 // Where a walk stands, the exit that it takes from there, and how many steps it has made.

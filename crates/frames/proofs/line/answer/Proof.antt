@@ -1,10 +1,10 @@
 -- `frames::answer` meets its contract. Assumes nothing.
 use borrow.Author.Needs.{needs}
-use Rattle.frames.proofs.Bytes.{in-array, no-longer, a-frame, no-bytes}
+use Rattle.frames.proofs.Bytes.{in-array, a-frame, no-bytes}
 use Rattle.frames.proofs.line.answer.Statement.{statement}
 use Rattle.frames.proofs.line.answer.Tie as tie
 
-ruleset laws = (in-array, no-longer, a-frame, no-bytes, needs)
+ruleset laws = (in-array, a-frame, no-bytes, needs)
 
 pub answer-spec : {M : Type 1} → statement M
 answer-spec =

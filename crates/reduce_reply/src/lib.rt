@@ -1,0 +1,31 @@
+// A reduction or a numbering made, and what it answers put as an answer line.
+//
+// Nothing fails: a refusal is an answer too. Where an answer does not fit, nothing is written.
+ghost use mathlib.Core.Path.{_≡_};
+ghost use Rattle.reduce.specs.Calls.{reduceOf, numberedOf};
+ghost use Rattle.texts.specs.Put.{put};
+ghost use Rattle.replies.specs.Room.{room, marks, numberRoom};
+ghost use Rattle.reduce_reply.specs.Reply.{reduceReply, numbersReply};
+
+// Reduces, puts the points that are kept at a place of `out`, and answers the place behind them; where
+// they do not fit, the place itself.
+pub fn put_reduced(list: &[i32], tolerance: f64, out: &mut [u8], at: usize) -> usize
+    ensures { λ r. ⌜ record { next = r; out = now (out .exit) }
+        ≡ put (reduceReply (reduceOf (now (list .entry)) tolerance room room marks)) (now (out .entry)) at ⌝ }
+{
+    let mut kept = [0i32; 8190];
+    let mut scratch = [0i32; 8190];
+    let mut marks = [0u8; 4095];
+    let answer = reduce::reduce(list, tolerance, &mut kept, &mut scratch, &mut marks);
+    replies::put_points(3, answer.number(), &kept[0..answer.count() * 2], out, at)
+}
+
+// Numbers the points, puts their numbers, and answers likewise.
+pub fn put_numbered(list: &[i32], out: &mut [u8], at: usize) -> usize
+    ensures { λ r. ⌜ record { next = r; out = now (out .exit) }
+        ≡ put (numbersReply (numberedOf (now (list .entry)) numberRoom)) (now (out .entry)) at ⌝ }
+{
+    let mut numbers = [0.0f64; 2047];
+    let answer = reduce::numbers(list, &mut numbers);
+    replies::put_numbers(4, answer.number(), &numbers[0..answer.count()], out, at)
+}

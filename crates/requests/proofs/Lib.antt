@@ -1,0 +1,4 @@
+pub mod Values
+pub mod Points
+pub mod ByKind
+pub mod Claims

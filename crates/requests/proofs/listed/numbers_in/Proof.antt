@@ -1,0 +1,20 @@
+-- `requests::numbers_in` meets its contract. Assumes nothing.
+use borrow.Author.Needs.{needs}
+use Rattle.requests.proofs.Points.{at-least, has-room, no-numbers, a-numbers}
+use Rattle.requests.proofs.listed.numbers_in.Statement.{statement}
+use Rattle.requests.proofs.listed.numbers_in.Tie as tie
+
+ruleset laws = (at-least, has-room, no-numbers, a-numbers, needs)
+
+pub numbers-in-spec : {M : Type 1} → statement M
+numbers-in-spec =
+    tie.close
+    (tie.spec
+    (λ c κs. search laws)  -- is-list-requires
+    (λ c. search laws)  -- returns
+    (λ c. search laws)  -- sub-decode
+    (λ c. search laws)  -- part-decode-start
+    (λ c. search laws)  -- part-decode-end
+    (λ c κs. search laws)  -- decode-requires
+    (λ c. search laws)  -- same-length
+    (λ c. search laws))  -- returns-2

@@ -1,0 +1,29 @@
+-- How what a frame asks for is handed on: its points at the start of a lent buffer, and the rest as the answer.
+use Prim.Native.Nat.{ℕ}
+use mathlib.Core.List.{List}
+use lib.Dec.{leb}
+use lib.IntN.{ℤ}
+use lib.ListN.{length}
+use Rattle.laws.specs.Lists.{over}
+use Rattle.point.specs.Refusals.{if_then_else_}
+use Rattle.requests.specs.Frame.{Request, walk, simplify, reduce, numbers, no-frame}
+use Rattle.requests.specs.declared.Asked.{Asked}
+use Rattle.requests.specs.declared.Asked.the-variants as Asked
+
+-- an answer, with what the buffer holds once it is given
+pub record Outcome : Type 0 where
+  pub answer : Asked
+  pub to : List ℤ
+
+-- points that do not fit are not written, and there is no frame
+abbrev pub withPoints : (ℕ → Asked) → List ℤ → List ℤ → Outcome
+withPoints ask points to =
+    if leb (length points) (length to) then record { answer = ask (length points); to = over points to }
+    else record { answer = Asked.NoFrame; to = to }
+
+unfoldable pub handed : Request → List ℤ → Outcome
+handed (walk clockwise chart start rows) to = record { answer = Asked.Walk clockwise chart start; to = to }
+handed (simplify clockwise points) to = withPoints (λ n. Asked.Simplify clockwise n) points to
+handed (reduce tolerance points) to = withPoints (λ n. Asked.Reduce tolerance n) points to
+handed (numbers points) to = withPoints (λ n. Asked.Numbers n) points to
+handed no-frame to = record { answer = Asked.NoFrame; to = to }
