@@ -1,0 +1,4 @@
+pub mod Telling
+pub mod Values
+pub mod TwoLines
+pub mod Claims

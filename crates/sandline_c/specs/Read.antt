@@ -1,0 +1,46 @@
+-- What values that a caller hands in stand for.
+use Prim.Native.Nat.{ℕ, _+_, _*_}
+use mathlib.Core.List.{List}
+use lib.Dec.{eqb}
+use lib.Ieee.{Float, nan}
+use lib.IntN.{ℤ}
+use lib.ListN.{length, getD}
+use Rattle.point.specs.Refusals.{if_then_else_}
+use Rattle.point.specs.declared.PointI32.{PointI32}
+use Rattle.point.specs.declared.PointF64.{PointF64}
+use Rattle.bitmap.specs.declared.Chart.{Chart}
+use Rattle.corners.specs.declared.Pair.{Pair}
+use Rattle.crossing.specs.declared.Intersection.{Intersection}
+use Rattle.crossing.specs.declared.Intersection.the-variants.{Parallel, Coincide, Cross}
+use Rattle.scheme.specs.declared.Settings.{Settings}
+
+abbrev pub chart : ℕ → ℕ → Chart
+chart width height = record { width = width; height = height }
+
+abbrev pub point : ℤ → ℤ → PointI32
+point x y = record { x = x; y = y }
+
+abbrev pub place : Float → Float → PointF64
+place x y = record { x = x; y = y }
+
+abbrev pub pair : ℤ → ℤ → Pair
+pair c s = record { c = c; s = s }
+
+abbrev pub settings : Float → Float → Settings
+settings ratio length = record { ratio = ratio; length = length }
+
+-- a value of a list; what is not there is not a number
+abbrev pub valueAt : List Float → ℕ → Float
+valueAt values k = getD values k nan
+
+-- the point at a position of a list x, y, x, y
+abbrev pub placeAt : List Float → ℕ → PointF64
+placeAt values k = place (valueAt values (k * 2)) (valueAt values (k * 2 + 1))
+
+-- The crossing that values stand for, as `sandline_find_intersection` hands them out: four are a point and both ratios, two the midpoint of
+-- lines that coincide. Any other number of them stands for lines that do not meet.
+unfoldable pub crossed : List Float → Intersection
+crossed values =
+    if eqb (length values) 4 then Cross (placeAt values 0) (valueAt values 2) (valueAt values 3) else
+    if eqb (length values) 2 then Coincide (placeAt values 0) else
+    Parallel

@@ -1,0 +1,16 @@
+// The calls of the library for C, and for all that can call C. include/sandline.h says it to its users.
+//
+// Every call is thin: it hands its slices on to the proved call of the same name, and answers document 01's
+// number, 0 for done. Counts and values come back through small lent arrays: after a refusal the count is 0,
+// and all else that was lent holds what it held.
+//
+// The deepest call is `sandline_answer`: 119,232 bytes of stack with its return addresses, and for each
+// further level of a split 144 where it reduces and 160 where it numbers (measured on the x86-64 code at
+// -O3). The header has the figure of every call; tools/stack prints them.
+mod crossings;
+mod geometry;
+mod handing;
+mod overlay;
+mod smoothing;
+mod spirals;
+mod thinning;

@@ -1,0 +1,101 @@
+// Charts, walks, spirals and frames.
+ghost use mathlib.Core.Path.{_≡_};
+ghost use Rattle.bitmap.specs.Area.{areaOf};
+ghost use Rattle.bitmap.specs.Pixels.{pixelAt};
+ghost use Rattle.bitmap.specs.Start.{firstStart};
+ghost use Rattle.frames.specs.Reply.{answerTo};
+ghost use Rattle.texts.specs.Put.{put};
+ghost use Rattle.walks.specs.Walk.{walked as walkOf};
+ghost use Rattle.sandline_c.specs.Handed.{walked, started, celled};
+ghost use Rattle.sandline_c.specs.Read.{chart as chartOf, point as pointOf};
+use chart::Chart;
+use chart::Start;
+use point::PointI32;
+
+// Whether a pixel of a chart is set; none is outside of it.
+#[no_mangle]
+pub extern "C" fn sandline_pixel(width: usize, height: usize, pixels: &[u8], x: i32, y: i32) -> bool
+    ensures { λ r. ⌜ r ≡ pixelAt (chartOf width height) (now (pixels .entry)) x y ⌝ }
+{
+    let chart = Chart {
+        width: width,
+        height: height,
+    };
+    chart::pixel(chart, pixels, x, y)
+}
+
+// How many pixels of a chart are set.
+#[no_mangle]
+pub extern "C" fn sandline_area(
+    width: usize,
+    height: usize,
+    pixels: &[u8],
+    count: &mut [usize; 1],
+) -> u8
+    ensures { λ r. ⌜ record { number = r; values = now (count .exit) } ≡ celled (areaOf (chartOf width height) (now (pixels .entry))) ⌝ }
+{
+    let chart = Chart {
+        width: width,
+        height: height,
+    };
+    let cells = chart::area(chart, pixels);
+    *count = [cells.count()];
+    cells.number()
+}
+
+// Where a walk of a chart may begin: x and y.
+#[no_mangle]
+pub extern "C" fn sandline_first_start(
+    width: usize,
+    height: usize,
+    pixels: &[u8],
+    start: &mut [i32; 2],
+) -> u8
+    ensures { λ r. ⌜ record { number = r; values = now (start .exit) }
+        ≡ started (firstStart (chartOf width height) (now (pixels .entry))) (now (start .entry)) ⌝ }
+{
+    let chart = Chart {
+        width: width,
+        height: height,
+    };
+    match chart::first_start(chart, pixels) {
+        Start::At(p) => {
+            *start = [p.x, p.y];
+            0
+        }
+        Start::Refused(refusal) => refusal.number(),
+    }
+}
+
+// The outline of what is set, walked from a start.
+#[no_mangle]
+pub extern "C" fn sandline_walk(
+    width: usize,
+    height: usize,
+    pixels: &[u8],
+    x: i32,
+    y: i32,
+    clockwise: bool,
+    out: &mut [i32],
+    count: &mut [usize; 1],
+) -> u8
+    ensures { λ r. ⌜ record { number = r; count = now (count .exit); buffers = now (out .exit) }
+        ≡ walked (walkOf (chartOf width height) (now (pixels .entry)) (pointOf x y) clockwise (now (out .entry))) ⌝ }
+{
+    let chart = Chart {
+        width: width,
+        height: height,
+    };
+    let walked = walker::walk(chart, pixels, PointI32 { x: x, y: y }, clockwise, out);
+    *count = [walked.count()];
+    walked.number()
+}
+
+// The answer to a line that asks for a call, at a place of `out`: the place behind it, or the place itself
+// where it does not fit.
+#[no_mangle]
+pub extern "C" fn sandline_answer(line: &[u8], out: &mut [u8], at: usize) -> usize
+    ensures { λ r. ⌜ record { next = r; out = now (out .exit) } ≡ put (answerTo (now (line .entry))) (now (out .entry)) at ⌝ }
+{
+    frames::answer(line, out, at)
+}

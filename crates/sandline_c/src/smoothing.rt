@@ -1,0 +1,63 @@
+// Corners, and one round of subdivision.
+ghost use mathlib.Core.Path.{_≡_};
+ghost use Rattle.corners.specs.Calls.{findCornersOf};
+ghost use Rattle.smooth.specs.Calls.{subdividedOf};
+ghost use Rattle.sandline_c.specs.Handed.{flagged, subdivided};
+ghost use Rattle.sandline_c.specs.Read.{pair, settings};
+use crate::handing::hand;
+use smooth::Pair;
+use smooth::Settings;
+use smooth::Subdivided;
+
+// A flag for each point, 1 for a corner.
+#[no_mangle]
+pub extern "C" fn sandline_find_corners(
+    points: &[i32],
+    c: i32,
+    s: i32,
+    closed: bool,
+    flags: &mut [u8],
+    count: &mut [usize; 1],
+) -> u8
+    ensures { λ r. ⌜ record { number = r; count = now (count .exit); buffers = now (flags .exit) }
+        ≡ flagged (findCornersOf (now (points .entry)) (pair c s) closed (now (flags .entry))) ⌝ }
+{
+    hand(
+        smooth::find_corners(points, Pair { c: c, s: s }, closed, flags),
+        count,
+    )
+}
+
+// One round; `finished` says whether another would do nothing.
+#[no_mangle]
+pub extern "C" fn sandline_subdivide_keep_corners(
+    points: &[f64],
+    corners: &[u8],
+    ratio: f64,
+    length: f64,
+    closed: bool,
+    out: &mut [f64],
+    flags: &mut [u8],
+    count: &mut [usize; 1],
+    finished: &mut [bool; 1],
+) -> u8
+    ensures { λ r. ⌜ record { number = r; count = now (count .exit); buffers = (now (out .exit), now (flags .exit), now (finished .exit)) }
+        ≡ subdivided (subdividedOf (now (points .entry)) (now (corners .entry)) (settings ratio length) closed (now (out .entry)) (now (flags .entry)))
+        (now (finished .entry)) ⌝ }
+{
+    let settings = Settings {
+        ratio: ratio,
+        length: length,
+    };
+    match smooth::subdivide_keep_corners(points, corners, settings, closed, out, flags) {
+        Subdivided::Done(points, done) => {
+            *count = [points];
+            *finished = [done];
+            0
+        }
+        Subdivided::Refused(refusal) => {
+            *count = [0];
+            refusal.number()
+        }
+    }
+}

@@ -1,0 +1,116 @@
+// Simplification, reduction, and the numbers that zooms go by.
+ghost use mathlib.Core.Path.{_≡_};
+ghost use Rattle.simplify.specs.Calls.{staircaseOf, penaltiesOf, simplifyOf};
+ghost use Rattle.reduce.specs.Calls.{radialOf, douglasPeuckerOf, reduceOf, numberedOf, zoomOf};
+ghost use Rattle.sandline_c.specs.Handed.{passed, points as handedPoints, numbered, marked, reduced};
+use crate::handing::hand;
+
+#[no_mangle]
+pub extern "C" fn sandline_remove_staircase(
+    points: &[i32],
+    clockwise: bool,
+    out: &mut [i32],
+    count: &mut [usize; 1],
+) -> u8
+    ensures { λ r. ⌜ record { number = r; count = now (count .exit); buffers = now (out .exit) }
+        ≡ passed (staircaseOf (now (points .entry)) clockwise (now (out .entry))) ⌝ }
+{
+    hand(simplify::remove_staircase(points, clockwise, out), count)
+}
+
+#[no_mangle]
+pub extern "C" fn sandline_limit_penalties(
+    points: &[i32],
+    out: &mut [i32],
+    count: &mut [usize; 1],
+) -> u8
+    ensures { λ r. ⌜ record { number = r; count = now (count .exit); buffers = now (out .exit) }
+        ≡ passed (penaltiesOf (now (points .entry)) (now (out .entry))) ⌝ }
+{
+    hand(simplify::limit_penalties(points, out), count)
+}
+
+#[no_mangle]
+pub extern "C" fn sandline_simplify(
+    points: &[i32],
+    clockwise: bool,
+    out: &mut [i32],
+    count: &mut [usize; 1],
+) -> u8
+    ensures { λ r. ⌜ record { number = r; count = now (count .exit); buffers = now (out .exit) }
+        ≡ passed (simplifyOf (now (points .entry)) clockwise (now (out .entry))) ⌝ }
+{
+    hand(simplify::simplify(points, clockwise, out), count)
+}
+
+#[no_mangle]
+pub extern "C" fn sandline_simplify_radial_dist(
+    points: &[i32],
+    tolerance: f64,
+    out: &mut [i32],
+    count: &mut [usize; 1],
+) -> u8
+    ensures { λ r. ⌜ record { number = r; count = now (count .exit); buffers = now (out .exit) }
+        ≡ handedPoints (radialOf (now (points .entry)) tolerance (now (out .entry))) ⌝ }
+{
+    hand(reduce::simplify_radial_dist(points, tolerance, out), count)
+}
+
+#[no_mangle]
+pub extern "C" fn sandline_simplify_douglas_peucker(
+    points: &[i32],
+    tolerance: f64,
+    out: &mut [i32],
+    marks: &mut [u8],
+    count: &mut [usize; 1],
+) -> u8
+    ensures { λ r. ⌜ record { number = r; count = now (count .exit); buffers = (now (out .exit), now (marks .exit)) }
+        ≡ marked (douglasPeuckerOf (now (points .entry)) tolerance (now (out .entry)) (now (marks .entry))) ⌝ }
+{
+    hand(
+        reduce::simplify_douglas_peucker(points, tolerance, out, marks),
+        count,
+    )
+}
+
+#[no_mangle]
+pub extern "C" fn sandline_reduce(
+    points: &[i32],
+    tolerance: f64,
+    out: &mut [i32],
+    scratch: &mut [i32],
+    marks: &mut [u8],
+    count: &mut [usize; 1],
+) -> u8
+    ensures { λ r. ⌜ record { number = r; count = now (count .exit); buffers = (now (out .exit), now (scratch .exit), now (marks .exit)) }
+        ≡ reduced (reduceOf (now (points .entry)) tolerance (now (out .entry)) (now (scratch .entry)) (now (marks .entry))) ⌝ }
+{
+    hand(
+        reduce::reduce(points, tolerance, out, scratch, marks),
+        count,
+    )
+}
+
+// One number for each point.
+#[no_mangle]
+pub extern "C" fn sandline_numbers(points: &[i32], out: &mut [f64], count: &mut [usize; 1]) -> u8
+    ensures { λ r. ⌜ record { number = r; count = now (count .exit); buffers = now (out .exit) }
+        ≡ numbered (numberedOf (now (points .entry)) (now (out .entry))) ⌝ }
+{
+    hand(reduce::numbers(points, out), count)
+}
+
+// The points that a squared tolerance keeps, by their numbers.
+#[no_mangle]
+pub extern "C" fn sandline_zoom(
+    points: &[i32],
+    numbers: &[f64],
+    tolerance: f64,
+    out: &mut [i32],
+    count: &mut [usize; 1],
+) -> u8
+    ensures { λ r. ⌜ record { number = r; count = now (count .exit); buffers = now (out .exit) }
+        ≡ handedPoints (zoomOf (now (points .entry)) (now (numbers .entry)) tolerance (now (out .entry))) ⌝ }
+{
+    hand(reduce::zoom(points, numbers, tolerance, out), count)
+}
