@@ -1,0 +1,21 @@
+//! Frames: a call as a line of hexadecimal digits.
+
+use crate::raw;
+
+/// Puts the answer to a frame, a line of hexadecimal digits with no end of line, into `out` from `at` on,
+/// and answers the place behind it; or none where it does not fit, and then nothing is written. Document 01
+/// has the frames. An answer has 8 digits at least, and 32,768 at most; what is no frame is answered too.
+///
+/// ```
+/// let mut out = [b'.'; 50];
+/// assert_eq!(sandline::answer(b"0101000100010000000080", &mut out, 0), Some(48));
+/// assert_eq!(&out, b"810000050000000000010000000100010000000100000000..");
+/// assert_eq!(sandline::answer(b"no frame", &mut out, 42), Some(50));
+/// assert_eq!(&out[42..], b"ff0b0000");
+/// assert_eq!(sandline::answer(b"no frame", &mut out, 43), None);
+/// ```
+pub fn answer(line: &[u8], out: &mut [u8], at: usize) -> Option<usize> {
+    let next =
+        unsafe { raw::sandline_answer(line.as_ptr(), line.len(), out.as_mut_ptr(), out.len(), at) };
+    (next != at).then_some(next)
+}

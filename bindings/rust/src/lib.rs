@@ -1,0 +1,89 @@
+//! Outlines of bitmaps, simplified so that zooms nest: safe functions over `libsandline_c.a`, a library
+//! in which every function is proved. What is right is said by the repository's docs/01-scope.md
+//! ("document 01").
+//!
+//! Nothing is allocated: a call writes to what it is lent, and answers how many places it filled. Points
+//! are pairs x, y in pixels, y down; a list has at most 4,096 of them, with coordinates from -16,383 to
+//! 16,383.
+//!
+//! A call that cannot be done answers a [`Refusal`], the lowest that applies, and then every lent
+//! slice holds what it held, scratch too. After an answer the places behind it hold what they held.
+//! Room is judged on the length of the input alone: [`places`] says how much is asked for.
+//!
+//! # From pixels to zooms
+//!
+//! ```
+//! use sandline::{numbers, places, simplify, zoom, Chart};
+//!
+//! // Six by four pixels, a row a byte: a block with a notch.
+//! let chart = Chart { width: 6, height: 4, pixels: &[0b111111_00, 0b111111_00, 0b110111_00, 0b110111_00] };
+//! let start = chart.first_start()?;
+//! let mut walked = [[0; 2]; 64];
+//! let n = chart.walk(start, true, &mut walked)?;
+//! let outline = &walked[..n];
+//! assert_eq!(outline.first(), outline.last());
+//!
+//! let mut kept = [[0; 2]; 64];
+//! let n = simplify(outline, true, &mut kept[..places(outline.len())])?;
+//! let outline = &kept[..n];
+//!
+//! // One number for each point, and then any zoom by comparing.
+//! let mut by = [0.0; 64];
+//! let n = numbers(outline, &mut by)?;
+//! let (mut near, mut wide) = ([[0; 2]; 64], [[0; 2]; 64]);
+//! let more = zoom(outline, &by[..n], 0.25, &mut near)?;
+//! let fewer = zoom(outline, &by[..n], 16.0, &mut wide)?;
+//! assert!(wide[..fewer].iter().all(|point| near[..more].contains(point)));
+//! # Ok::<(), sandline::Refusal>(())
+//! ```
+//!
+//! # Linking
+//!
+//! `tools/archive FOLDER` makes the archive, and `SANDLINE_ARCHIVE=FOLDER cargo build` links it. This crate has no
+//! dependencies and does without the standard library.
+//!
+//! The repository's include/sandline.h says what stack each call takes. [`numbers`],
+//! [`simplify_douglas_peucker`] and [`reduce`] call themselves, at worst as deep as the list is long.
+#![no_std]
+#![warn(missing_docs)]
+
+mod charts;
+mod frames;
+mod geometry;
+mod outlines;
+mod raw;
+mod refusal;
+mod smoothing;
+mod spirals;
+mod zooms;
+
+pub use charts::Chart;
+pub use frames::answer;
+pub use geometry::{
+    find_intersection, find_mid_point, norm, norm_i32, signed_area, sqrt, sqrt_bits, Intersection,
+};
+pub use outlines::{limit_penalties, remove_staircase, simplify};
+pub use refusal::Refusal;
+pub use smoothing::{find_corners, subdivide_keep_corners, Pair, Settings, Subdivided};
+pub use spirals::Spiral;
+pub use zooms::{numbers, reduce, simplify_douglas_peucker, simplify_radial_dist, zoom};
+
+/// A point of a chart or an outline: x and y, in pixels, y down.
+pub type Point = [i32; 2];
+
+/// A point with fractions.
+pub type PointF64 = [f64; 2];
+
+/// How many places a list of `points` points asks of the slice for its answer: as many, and 2 for a single
+/// one, which may be answered twice.
+///
+/// ```
+/// assert_eq!([0, 1, 2, 5].map(sandline::places), [0, 2, 2, 5]);
+/// ```
+pub const fn places(points: usize) -> usize {
+    if points == 1 {
+        2
+    } else {
+        points
+    }
+}

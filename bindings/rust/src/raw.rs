@@ -1,0 +1,172 @@
+//! The calls of include/sandline.h, which says what each does and what its caller owes.
+//!
+//! A slice goes as a pointer and its length in elements. A slice of Rust is aligned, as long as it says, and
+//! shares no byte with another one that may be written: that is what the calls ask for.
+
+use crate::Spiral;
+
+extern "C" {
+    pub fn sandline_pixel(
+        width: usize,
+        height: usize,
+        pixels: *const u8,
+        bytes: usize,
+        x: i32,
+        y: i32,
+    ) -> bool;
+    pub fn sandline_area(
+        width: usize,
+        height: usize,
+        pixels: *const u8,
+        bytes: usize,
+        count: *mut usize,
+    ) -> u8;
+    pub fn sandline_first_start(
+        width: usize,
+        height: usize,
+        pixels: *const u8,
+        bytes: usize,
+        start: *mut [i32; 2],
+    ) -> u8;
+    pub fn sandline_walk(
+        width: usize,
+        height: usize,
+        pixels: *const u8,
+        bytes: usize,
+        x: i32,
+        y: i32,
+        clockwise: bool,
+        out: *mut i32,
+        room: usize,
+        count: *mut usize,
+    ) -> u8;
+
+    pub fn sandline_remove_staircase(
+        points: *const i32,
+        length: usize,
+        clockwise: bool,
+        out: *mut i32,
+        room: usize,
+        count: *mut usize,
+    ) -> u8;
+    pub fn sandline_limit_penalties(
+        points: *const i32,
+        length: usize,
+        out: *mut i32,
+        room: usize,
+        count: *mut usize,
+    ) -> u8;
+    pub fn sandline_simplify(
+        points: *const i32,
+        length: usize,
+        clockwise: bool,
+        out: *mut i32,
+        room: usize,
+        count: *mut usize,
+    ) -> u8;
+
+    pub fn sandline_simplify_radial_dist(
+        points: *const i32,
+        length: usize,
+        tolerance: f64,
+        out: *mut i32,
+        room: usize,
+        count: *mut usize,
+    ) -> u8;
+    pub fn sandline_simplify_douglas_peucker(
+        points: *const i32,
+        length: usize,
+        tolerance: f64,
+        out: *mut i32,
+        room: usize,
+        marks: *mut u8,
+        mark_room: usize,
+        count: *mut usize,
+    ) -> u8;
+    pub fn sandline_reduce(
+        points: *const i32,
+        length: usize,
+        tolerance: f64,
+        out: *mut i32,
+        room: usize,
+        scratch: *mut i32,
+        scratch_room: usize,
+        marks: *mut u8,
+        mark_room: usize,
+        count: *mut usize,
+    ) -> u8;
+    pub fn sandline_numbers(
+        points: *const i32,
+        length: usize,
+        out: *mut f64,
+        room: usize,
+        count: *mut usize,
+    ) -> u8;
+    pub fn sandline_zoom(
+        points: *const i32,
+        length: usize,
+        numbers: *const f64,
+        numbers_length: usize,
+        tolerance: f64,
+        out: *mut i32,
+        room: usize,
+        count: *mut usize,
+    ) -> u8;
+
+    pub fn sandline_sqrt(x: f64) -> f64;
+    pub fn sandline_sqrt_bits(bits: u64) -> u64;
+    pub fn sandline_signed_area(points: *const [i32; 6], area: *mut i32) -> u8;
+    pub fn sandline_find_mid_point(points: *const [f64; 4], middle: *mut [f64; 2]) -> u8;
+    pub fn sandline_norm(x: f64, y: f64, length: *mut f64) -> u8;
+    pub fn sandline_norm_i32(x: i32, y: i32, length: *mut f64) -> u8;
+    pub fn sandline_find_intersection(
+        first: *const [f64; 4],
+        second: *const [f64; 4],
+        values: *mut [f64; 4],
+        count: *mut usize,
+    ) -> u8;
+    pub fn sandline_outside(values: *const f64, count: usize) -> bool;
+    pub fn sandline_inside(values: *const f64, count: usize) -> bool;
+    pub fn sandline_coincide(values: *const f64, count: usize) -> bool;
+
+    pub fn sandline_find_corners(
+        points: *const i32,
+        length: usize,
+        c: i32,
+        s: i32,
+        closed: bool,
+        flags: *mut u8,
+        room: usize,
+        count: *mut usize,
+    ) -> u8;
+    pub fn sandline_subdivide_keep_corners(
+        points: *const f64,
+        points_length: usize,
+        corners: *const u8,
+        corners_length: usize,
+        ratio: f64,
+        length: f64,
+        closed: bool,
+        out: *mut f64,
+        room: usize,
+        flags: *mut u8,
+        flag_room: usize,
+        count: *mut usize,
+        finished: *mut bool,
+    ) -> u8;
+
+    pub fn sandline_spiral(size: usize, spiral: *mut Spiral) -> u8;
+    pub fn sandline_spiral_advance(
+        spiral: *mut Spiral,
+        place: *mut [i32; 2],
+        count: *mut usize,
+    ) -> u8;
+
+    pub fn sandline_answer(
+        line: *const u8,
+        length: usize,
+        out: *mut u8,
+        room: usize,
+        at: usize,
+    ) -> usize;
+}

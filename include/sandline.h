@@ -1,0 +1,304 @@
+// Sandline for C and C++: outlines of bitmaps, simplified so that zooms nest.
+//
+// tools/archive FOLDER makes FOLDER/libsandline_c.a. Of the C library it calls memset alone; it allocates
+// nothing, keeps nothing between calls, reads and writes no file, and sets no errno. So calls may run at the
+// same time on several threads, as long as what one of them writes is lent to no other.
+//
+// Every call comes back, for every input that keeps to "What you owe" below. What is right is said by
+// docs/01-scope.md ("document 01"), and it is proved that the code under these calls does it.
+//
+// The outline of a chart, in 4,096 points at most:
+//
+//     static int32_t walked[8192], kept[8192];
+//     int32_t start[2];
+//     size_t n;
+//     if (sandline_first_start(width, height, pixels, bytes, start) == SANDLINE_DONE &&
+//         sandline_walk(width, height, pixels, bytes, start[0], start[1], true, walked, 8192, &n) == SANDLINE_DONE &&
+//         sandline_simplify(walked, 2 * n, true, kept, 8192, &n) == SANDLINE_DONE)
+//         draw(kept, n); // kept[0], kept[1] is the first point, kept[2 * n - 2], kept[2 * n - 1] the last
+//
+// WHAT IT IS ALL MADE OF
+//
+// Units are pixels, x to the right and y down. A pixel's top left corner has its column and row as x and y.
+//
+// A chart is a bitmap, 1 to 512 pixels wide and high: rows from the top, each padded to whole bytes, one bit
+// a pixel, the leftmost the highest. That is (width + 7) / 8 * height bytes; padding is never looked at.
+//
+// A list of points is an array x, y, x, y, .. of int32_t or of double, up to 4,096 points, each coordinate
+// -16,383 to 16,383. Its LENGTH IS GIVEN IN ELEMENTS, that is in values: 2n for n points. So is room. A COUNT
+// that is answered IS IN POINTS (or in what the call says), so count points fill 2 * count elements.
+//
+// A closed list ends with the point that it begins with. Flags are bytes, 1 or 0.
+//
+// WHAT EVERY CALL HAS IN COMMON
+//
+// A call that can refuse returns 0 (SANDLINE_DONE), or the least number below that applies.
+//
+// Refused: the count, if the call has one, is set to 0, and everything else that was lent holds what it held,
+// scratch too.
+//
+// Done: the answer stands at the start of its buffer, and places behind it hold what they held.
+//
+// Room that is asked for hangs on the input's length alone, so that a caller who lends it is never refused
+// for it: n points ask for n places, a single one for 2, and a place for a point is 2 elements. More room is
+// never harmful. Only a walk asks for as many places as its outline has points.
+//
+// WHAT YOU OWE
+//
+// - A pointer with a length points to so many elements at least, or is null if the length is 0. Null with
+//   any other length is not allowed.
+// - Any other pointer (an array of fixed size, count, a struct) is never null, and points to as many elements
+//   as its type says. They need not be set if the call only writes them.
+// - Every pointer is aligned as C asks for its type.
+// - What a call may write (all that is not const) shares no byte with anything else that is handed to the
+//   same call; count, scratch and marks too. What is only read may overlap with what is only read.
+// - A bool is 0 or 1 in memory.
+// - Doubles are rounded to nearest, and small ones are kept, as C has it by default: no other rounding mode,
+//   no flushing to zero.
+//
+// All else may be of any value: NaN, numbers out of range and lists too long are answered by a refusal.
+//
+// STACK
+//
+// Bytes are those of the x86-64 code at -O3: all frames along the deepest path with their return addresses, without
+// what memset takes (tools/stack prints them). Other processors take other frames. Douglas-Peucker and the numbers call
+// themselves, by levels: a list whose every split takes one point off goes as deep as it is long, a shore far less.
+#ifndef SANDLINE_H
+#define SANDLINE_H
+
+#include <stdbool.h>
+#include <stddef.h>
+#include <stdint.h>
+
+#if SIZE_MAX != UINT64_MAX
+#error "libsandline_c.a is compiled for a size_t of 64 bits"
+#endif
+
+#ifdef __cplusplus
+extern "C" {
+#endif
+
+// Why a call hands nothing out. If several apply the least is given.
+enum sandline_number {
+    SANDLINE_DONE = 0,
+    SANDLINE_BAD_SIZE = 1,      // a chart's or a spiral's size out of range, a spiral's field, too few bytes
+    SANDLINE_TOO_MANY = 2,      // a list has over 8,192 values, that is 4,096 points
+    SANDLINE_BAD_POINT = 3,     // an odd count of values, or a coordinate out of range, NaN or infinite
+    SANDLINE_TOO_FEW = 4,       // fewer points than the call can do anything with
+    SANDLINE_BAD_TOLERANCE = 5, // NaN or out of range
+    SANDLINE_BAD_FLAGS = 6,     // too many flags or too few, or one that is not 0 or 1
+    SANDLINE_BAD_SETTINGS = 7,  // a ratio, length or pair out of range or NaN
+    SANDLINE_NO_WAY = 8,        // no way on from the start of a walk, or a chart without a set pixel
+    SANDLINE_STUCK = 9,         // after some run a walk has over 1,000,000 steps
+    SANDLINE_NO_ROOM = 10,      // a lent buffer is too short
+    SANDLINE_BAD_FRAME = 11     // only in the answers of sandline_answer: no frame
+};
+
+// ---- Charts. Each refuses a bad size or too few bytes: SANDLINE_BAD_SIZE.
+
+// Whether the pixel in column x of row y is set. Refuses nothing: outside the chart, past the last byte, and
+// of a chart wider than 512, no pixel is set.
+// Stack of sandline_pixel: 8 bytes.
+bool sandline_pixel(size_t width, size_t height, const uint8_t *pixels, size_t bytes, int32_t x, int32_t y);
+
+// How many pixels are set, in count.
+// Stack of sandline_area: 56 bytes.
+uint8_t sandline_area(size_t width, size_t height, const uint8_t *pixels, size_t bytes, size_t *count);
+
+// Where a walk may begin, x and y: the top left corner of the first set pixel, row by row.
+// Refuses a chart without one: SANDLINE_NO_WAY.
+// Stack of sandline_first_start: 16 bytes.
+uint8_t sandline_first_start(size_t width, size_t height, const uint8_t *pixels, size_t bytes,
+                             int32_t start[2]);
+
+// ---- Outlines.
+
+// The outline of what is set, walked from the corner (x, y) of a pixel: the start, then the end of each run
+// until one ends on the start. At a fork the walk tries up, right, down, left if clockwise, else left, down,
+// right, up. An outline may have over 4,096 points; other calls then refuse it.
+//
+// Room: 2 elements for each point of the outline.
+// Refuses: a bad chart (1), x or y beyond 16,383 (3), a start whose four pixels are alike (8), over 1,000,000 steps
+// after some run (9), which is how a walk ends that never comes back to its start, no room (10).
+// Stack of sandline_walk: 384 bytes.
+uint8_t sandline_walk(size_t width, size_t height, const uint8_t *pixels, size_t bytes, int32_t x, int32_t y,
+                      bool clockwise, int32_t *out, size_t room, size_t *count);
+
+// The next three put the points of a list that are left at the start of out. Each refuses too many points (2),
+// a bad list (3) and no room (10): 2n elements for n points, 4 for a single one.
+
+// Without one-pixel staircases. Clockwise says which way round the list goes.
+// Stack of sandline_remove_staircase: 104 bytes.
+uint8_t sandline_remove_staircase(const int32_t *points, size_t length, bool clockwise, int32_t *out,
+                                  size_t room, size_t *count);
+
+// Without the points that cost less than 1 to leave out: the square of the area of the triangle that goes, over
+// the side that takes its place. Of two points the first alone is left; a single one is answered twice.
+// Stack of sandline_limit_penalties: 232 bytes.
+uint8_t sandline_limit_penalties(const int32_t *points, size_t length, int32_t *out, size_t room, size_t *count);
+
+// Both, one after the other: what to do with a walked outline.
+// Stack of sandline_simplify: 33,080 bytes, most of them for the list between the two.
+uint8_t sandline_simplify(const int32_t *points, size_t length, bool clockwise, int32_t *out, size_t room,
+                          size_t *count);
+
+// ---- Zooms: fewer points, the wider the tolerance. By Douglas-Peucker, and by numbers and zoom, they nest: a
+// point that is kept at one tolerance is kept at every lower one. The radial pass, and so reduce, does not nest.
+//
+// For six zooms of one list call sandline_numbers once and sandline_zoom six times.
+//
+// Each refuses too many points (2), a bad list (3), a bad tolerance (5) and no room (10): 2n elements of out
+// for n points, 4 for a single one, and what is said of the call.
+
+// The radial pass: a point is kept if it lies farther than the tolerance from the last one kept; the first and
+// the last stay. The tolerance is SQUARED, 0 to 4,294,967,296 square pixels.
+// Stack of sandline_simplify_radial_dist: 88 bytes.
+uint8_t sandline_simplify_radial_dist(const int32_t *points, size_t length, double tolerance, int32_t *out,
+                                      size_t room, size_t *count);
+
+// Douglas-Peucker at a SQUARED tolerance, 0 to 4,294,967,296. Both ends stay; one point is answered twice.
+// After it marks starts with n bytes, 1 for each point kept and 0 for each dropped.
+// Room: n marks too. Refuses a list of no points (4) too.
+// Stack of sandline_simplify_douglas_peucker: 280 bytes, and 144 for each further level, n - 2 of them at most.
+uint8_t sandline_simplify_douglas_peucker(const int32_t *points, size_t length, double tolerance, int32_t *out,
+                                          size_t room, uint8_t *marks, size_t mark_room, size_t *count);
+
+// The radial pass at half the squared tolerance, then Douglas-Peucker. The tolerance is in PIXELS, 0 to 65,536.
+// Up to two points, and any list at tolerance 0, are answered whole; else scratch starts with the list that
+// the radial pass left, and marks with one byte for each point of that.
+// Room: 2n elements of scratch and n marks too.
+// Stack of sandline_reduce: 328 bytes, and 144 for each further level, n - 2 of them at most.
+uint8_t sandline_reduce(const int32_t *points, size_t length, double tolerance, int32_t *out, size_t room,
+                        int32_t *scratch, size_t scratch_room, uint8_t *marks, size_t mark_room, size_t *count);
+
+// One number for each point: at exactly the squared tolerances below it Douglas-Peucker keeps the point. Both
+// ends have infinity. Count is n.
+// Room: n doubles, 2 where n is 1. No tolerance; refuses a list of no points (4) too.
+// Stack of sandline_numbers: 232 bytes, and 160 for each further level, n - 2 of them at most.
+uint8_t sandline_numbers(const int32_t *points, size_t length, double *out, size_t room, size_t *count);
+
+// The points whose number is greater than a SQUARED tolerance, with both ends: what Douglas-Peucker answers at
+// that tolerance, at the cost of one comparison for each point. The numbers are those of the same list; numbers_length
+// other than n is a bad list (3).
+// Refuses a list of no points (4) too.
+// Stack of sandline_zoom: 120 bytes.
+uint8_t sandline_zoom(const int32_t *points, size_t length, const double *numbers, size_t numbers_length,
+                      double tolerance, int32_t *out, size_t room, size_t *count);
+
+// ---- Geometry.
+
+// The square root as IEEE 754 has it: the double nearest to the exact root, ties to even. -0 gives -0, and NaN
+// or below zero gives NaN. The second takes and gives a double's bits, its NaN always 0x7ff8000000000000.
+// Stack of sandline_sqrt: 40 bytes.
+// Stack of sandline_sqrt_bits: 8 bytes.
+double sandline_sqrt(double x);
+uint64_t sandline_sqrt_bits(uint64_t bits);
+
+// Each of the next five refuses a coordinate out of range, NaN or infinite: SANDLINE_BAD_POINT.
+
+// Twice the area of the triangle of three points, x, y, x, y, x, y: positive where they turn clockwise. (The
+// Rust's signed_area, which does not halve it.)
+// Stack of sandline_signed_area: 16 bytes.
+uint8_t sandline_signed_area(const int32_t points[6], int32_t *area);
+
+// The midpoint of two points, x, y, x, y.
+// Stack of sandline_find_mid_point: 8 bytes.
+uint8_t sandline_find_mid_point(const double points[4], double middle[2]);
+
+// The length of a vector, with fractions and without.
+// Stack of sandline_norm: 40 bytes.
+// Stack of sandline_norm_i32: 40 bytes.
+uint8_t sandline_norm(double x, double y, double *length);
+uint8_t sandline_norm_i32(int32_t x, int32_t y, double *length);
+
+// Where two lines cross, each given by two of its points, x, y, x, y. Count says which it is, and how many
+// values stand at the start of values:
+//   0  the lines are parallel
+//   2  they are one line: the midpoint of the first two points, x and y
+//   4  they cross: x and y, then where that is on the first line and on the second, 0 for its first point and
+//      1 for its second
+// A refusal counts 0 too: look at the number first.
+// Stack of sandline_find_intersection: 8 bytes.
+uint8_t sandline_find_intersection(const double first[4], const double second[4], double values[4],
+                                   size_t *count);
+
+// What such an answer says of the two pairs of points, within 1e-3 of a ratio: whether the crossing lies outside of
+// either pair, inside of both, and whether the lines are one. The values are those that
+// sandline_find_intersection put, count those that it counted; any other count stands for parallel lines, of
+// which all three are false. They look at the ratios alone and refuse nothing.
+// Stack of sandline_outside: 8 bytes.
+// Stack of sandline_inside: 8 bytes.
+// Stack of sandline_coincide: 8 bytes.
+bool sandline_outside(const double *values, size_t count);
+bool sandline_inside(const double *values, size_t count);
+bool sandline_coincide(const double *values, size_t count);
+
+// ---- Smoothing.
+
+// A flag for each point, 1 for a corner: where the outline turns at least by the angle whose cosine and sine
+// are proportional to c and s, so that 0 and 1 stand for 90 degrees. Exact, in whole numbers. An open list's
+// ends are corners; a closed list's last point is left out, and has no flag. Count is in flags.
+//
+// c is -1,000 to 1,000, s 1 to 1,000. Room: n flags, n - 1 of a closed list.
+// Refuses too many points (2), a bad list (3), no points (4), a bad pair (7), no room (10).
+// Stack of sandline_find_corners: 56 bytes.
+uint8_t sandline_find_corners(const int32_t *points, size_t length, int32_t c, int32_t s, bool closed,
+                              uint8_t *flags, size_t room, size_t *count);
+
+// One round of subdivision: between two points a third may enter, a little outside, so that the outline is
+// smoother; corners stay. Corners holds a flag for each point, as sandline_find_corners puts them (n of an open
+// list, n - 1 of a closed one). The greater the ratio, the less a new point leaves its segment; a segment of at
+// most the given length is left as it is. Flags starts with a flag for each point answered (a closed list's
+// last has none). Finished is true if of every point that entered both new segments are at most that long, so
+// also if none entered: no other round is needed.
+//
+// ratio is 1 to 1,000, length 0 to 65,536.
+// Room: 2n - 1 points, that is 4n - 2 doubles, and 2n - 1 flags; none where n is 0.
+// Refuses too many points (2), a bad list (3), a closed list of fewer than 2 points (4), bad flags (6), bad settings
+// (7), no room (10); then finished holds what it held.
+// Stack of sandline_subdivide_keep_corners: 392 bytes.
+uint8_t sandline_subdivide_keep_corners(const double *points, size_t points_length, const uint8_t *corners,
+                                        size_t corners_length, double ratio, double length, bool closed,
+                                        double *out, size_t room, uint8_t *flags, size_t flag_room, size_t *count,
+                                        bool *finished);
+
+// ---- Spirals: a square of pixels, one by one from its centre outwards.
+
+// Where a spiral stands, and how it goes on. A caller may keep it, copy it and look at it.
+typedef struct sandline_spiral_walker {
+    int32_t x;   // -512 to 512
+    int32_t y;   // -512 to 512
+    int32_t dir; // 0 to 3
+    int32_t gx;  // -1 to 1
+    int32_t gy;  // -1 to 1
+    int32_t sq;  // 1 to 1,024
+    int32_t cc;  // 0 to sq - 1
+    size_t area; // up to 262,144
+    size_t step; // up to area
+} sandline_spiral_walker;
+
+// The spiral of a square of size by size, 0 to 512, before its first step.
+// Refuses a size beyond that: SANDLINE_BAD_SIZE.
+// Stack of sandline_spiral: 8 bytes.
+uint8_t sandline_spiral(size_t size, sandline_spiral_walker *spiral);
+
+// One step: the place that the spiral stood on, x and y, and a count of 1; or a count of 0 where it has ended, and
+// then place and spiral hold what they held. (Odd sizes from 3 leave the square, as in the Rust.)
+// Refuses a field out of range: SANDLINE_BAD_SIZE, and a count of 0 too.
+// Stack of sandline_spiral_advance: 56 bytes.
+uint8_t sandline_spiral_advance(sandline_spiral_walker *spiral, int32_t place[2], size_t *count);
+
+// ---- Frames.
+
+// The answer to a frame: a line of hexadecimal digits, with no end of line, as document 01 has them under "Frames".
+// It is written from out[at] on, also with no end of line, and the place behind it is returned; where it does not fit
+// nothing is written, and at itself is returned. An answer has 8 digits at least, and 32,768 at most.
+// Whatever the line holds is answered; what is no frame by ff0b0000. Out and at are in digits.
+// Stack of sandline_answer: 119,232 bytes, and 160 for each further level (frames 03 and 04).
+size_t sandline_answer(const uint8_t *line, size_t length, uint8_t *out, size_t room, size_t at);
+
+#ifdef __cplusplus
+}
+#endif
+
+#endif
