@@ -7,7 +7,7 @@ use native.Mathlib.Omega.{arith}
 use lib.Ieee.{Float, lt}
 use lib.ListN.{length, length-append}
 use Rattle.split.specs.Tree.{mark}
-use Rattle.zooms.specs.Kept.{marksAfter, marksBy}
+use Rattle.keeping.specs.Kept.{marksAfter, marksBy}
 use Rattle.nesting.proofs.Kept.{marked}
 
 module _ (tolerance : Float) where

@@ -11,7 +11,7 @@ use Rattle.laws.specs.Order.{AtLeastZero}
 use Rattle.laws.specs.Least.{least, least-at-least-zero, least-cases}
 use Rattle.split.specs.Tree.{Tree, leaf, node, size, mark, cut, down}
 use Rattle.split.proofs.Cuts.{cut-kept, cut-dropped}
-use Rattle.split.proofs.Tolerances.{below-least}
+use Rattle.nesting.proofs.Tolerances.{below-least}
 use Rattle.split.proofs.Trees.{Each}
 
 -- ---- a mark says whether the tolerance is below the number

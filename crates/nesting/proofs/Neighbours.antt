@@ -13,11 +13,11 @@ use lib.Ieee.{Float, lt}
 use lib.ListN.{length, getD, replicate, length-append, length-replicate, getD-replicate, List·getD-append, List·getD-eq-default}
 use lib.Seq.{getD-at, getD-append-add}
 use borrow.Author.Tests.{ltb-true, ltb-false}
-use Rattle.split.specs.Spans.{SmallSpan}
 use Rattle.split.specs.Tree.{Tree, leaf, node, distanceIn, spanTree, size, cut}
 use Rattle.split.proofs.Cuts.{length-cut, cut-kept, cut-dropped}
-use Rattle.split.proofs.Tolerances.{within-goes-down}
-use Rattle.split.proofs.Trees.{at-least, span-part, span-distance, middle, reach, split-inside, split-distance, split-greatest, by-spans}
+use Rattle.nesting.proofs.Tolerances.{within-goes-down}
+use Rattle.split.proofs.Trees.{middle, reach, split-inside, by-spans}
+use Rattle.nesting.proofs.Farthest.{SmallSpan, at-least, span-part, span-distance, split-distance, split-greatest}
 
 -- in a list of marks that starts at the position f: two kept ones around k, with none between them, near whose segment k lies
 pub record Between (points : List ℤ) (t : Float) (f : ℕ) (marks : List ℕ) (k : ℕ) : Type 0 where

@@ -20,15 +20,16 @@ use Rattle.laws.specs.Ranges.{between-below}
 use Rattle.point.specs.Limits.{tooMany, badPoints, badSqTolerance, within}
 use Rattle.point.proofs.Claims.{coordinates-fit}
 use Rattle.split.specs.Distance.{sqSegDist}
-use Rattle.split.specs.Spans.{Small, SmallSpan}
+use Rattle.spans.specs.Small.{Small}
 use Rattle.split.specs.Tree.{count, pointAt, distanceIn, farthest, framed, spanTree, tree, mark, cut, down, marksOf, numbersOf}
-use Rattle.split.proofs.Distances.{distance-below, distance-nonneg}
+use Rattle.spans.proofs.Distances.{distance-below, distance-nonneg}
 use Rattle.split.proofs.Frames.{framed-many, framed-one}
-use Rattle.split.proofs.Tolerances.{lower-keeps}
-use Rattle.split.proofs.Trees.{at-least, Each, each-map, split-inside, split-greatest, split-earliest, span-distances}
+use Rattle.nesting.proofs.Tolerances.{lower-keeps}
+use Rattle.split.proofs.Trees.{Each, each-map, split-inside}
+use Rattle.nesting.proofs.Farthest.{SmallSpan, at-least, split-greatest, split-earliest, span-distances}
 use Rattle.split.proofs.Claims.{a-number-for-each-point}
-use Rattle.zooms.specs.Calls.{shortFor}
-use Rattle.zooms.specs.Kept.{marksBy}
+use Rattle.keeping.specs.Calls.{shortFor}
+use Rattle.keeping.specs.Kept.{marksBy}
 use Rattle.reduce.specs.Calls.{douglasPeuckerOf, zoomOf}
 use Rattle.nesting.proofs.Ends.{by-ends, by-end}
 use Rattle.nesting.proofs.Kept.{marked, kept-by-number, down-any, AllIn, all-at, Bit, cut-bits}
@@ -93,7 +94,7 @@ pub record Near (points : List ℤ) (t : Float) (k : ℕ) : Type 0 where
 
 module _ (points : List ℤ) (i32 : InI32 points) where
   small-span : (f l : ℕ) → SmallSpan points f l
-  small-span f l = record { small = λ k p q. record { small-at = record { small-x = i32 (k * 2); small-y = i32 (k * 2 + 1) } } }
+  small-span f l = record { small = λ k p q. record { small-x = i32 (k * 2); small-y = i32 (k * 2 + 1) } }
 
   tree-distances : Each AtLeastZero (tree points)
   unfolding tree
@@ -103,9 +104,9 @@ module _ (points : List ℤ) (i32 : InI32 points) where
 
   pub distances-are-finite : (first last k : ℕ) → Below 203 (distanceIn points first last k) × NonNeg (distanceIn points first last k)
   distances-are-finite first last k =
-      let p : Small (pointAt points k) = small-span k k .small k (le-refl k) (le-refl k) .small-at in
-      let a : Small (pointAt points first) = small-span first first .small first (le-refl first) (le-refl first) .small-at in
-      let b : Small (pointAt points last) = small-span last last .small last (le-refl last) (le-refl last) .small-at in
+      let p : Small (pointAt points k) = small-span k k .small k (le-refl k) (le-refl k) in
+      let a : Small (pointAt points first) = small-span first first .small first (le-refl first) (le-refl first) in
+      let b : Small (pointAt points last) = small-span last last .small last (le-refl last) (le-refl last) in
       (distance-below (pointAt points k) (pointAt points first) (pointAt points last) p a b, distance-nonneg (pointAt points k) (pointAt points first) (pointAt points last) p a b)
 
   -- ---- A span is split inside, where the computed distance is greatest, at the earliest of equals.

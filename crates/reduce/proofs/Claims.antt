@@ -1,18 +1,18 @@
--- What follows of the contracts, for their readers and their callers; of `numbers` and `zoom` it is said in the crate `zooms`, and passed on
--- here. Assumes nothing.
+-- What follows of the contract, for its readers and its callers; of the calls that are passed on it is said in their crates, and passed on here.
+-- Assumes nothing.
 use Prim.Native.Nat.{ℕ, _*_, _≤_}
 use mathlib.Core.Bool.{Bool, true, false, _||_}
 use mathlib.Core.List.{List}
 use mathlib.Core.Option.{Option, some, none}
 use mathlib.Core.Path.{_≡_, refl, sym, ap, ap₂, _∙_}
 use native.Mathlib.Omega.{arith}
-use lib.Dec.{ltb, eqb}
+use lib.Dec.{ltb}
 use lib.Ieee.{Float, binary64, ofBits, mul}
 use lib.IntN.{ℤ}
 use lib.ListN.{length}
 use denote.Ref.{now}
 use Rattle.laws.specs.Joined.{both-false}
-use Rattle.point.specs.Limits.{tooMany, badPoints, badTolerance, badSqTolerance, placesFor}
+use Rattle.point.specs.Limits.{tooMany, badPoints, badTolerance, placesFor}
 use Rattle.point.specs.Points.{flat, points}
 use Rattle.point.specs.Refusals.{countOf}
 use Rattle.point.specs.declared.Answer.the-variants.{Refused}
@@ -22,36 +22,20 @@ use Rattle.outline.specs.Points.{count}
 use Rattle.outline.proofs.Flat.{length-points, count-flat}
 use Rattle.outline.proofs.Room.{places-enough, places-shorter}
 use Rattle.split.specs.Tree.{marksOf}
-use Rattle.zooms.specs.Calls.{Points, shortFor}
-use Rattle.zooms.specs.Kept.{kept}
-use Rattle.zooms.proofs.Claims.{next, places, marks-fit}
+use Rattle.keeping.specs.Calls.{shortFor}
+use Rattle.keeping.specs.Kept.{kept}
+use Rattle.keeping.proofs.Claims.{next, places, marks-fit}
+use Rattle.radial_dist.specs.Radial.{radial}
+use Rattle.radial_dist.proofs.Far.{radial-shorter}
+pub use Rattle.radial_dist.proofs.Claims.{radial-determined, radial-unchanged, radial-fits}
+pub use Rattle.douglas_peucker.proofs.Claims.{douglas-peucker-determined, douglas-peucker-unchanged, douglas-peucker-fits}
 pub use Rattle.zooms.proofs.Claims.{numbers-determined, zoom-determined, numbers-unchanged, zoom-unchanged, numbers-fit, zoom-fits}
-use Rattle.reduce.specs.Radial.{radial}
-use Rattle.reduce.specs.Calls.{Marked, Reduced, radialRefusal, radialOutcome, radialOf, splitRefusal, splitOutcome, douglasPeuckerOf, reduceRefusal, reduceOutcome, reduceOf}
-use Rattle.reduce.proofs.Far.{radial-shorter}
+use Rattle.reduce.specs.Calls.{Reduced, reduceRefusal, reduceOutcome, reduceOf}
 use Rattle.reduce.proofs.Lines.{inWhole, many-points, answers-whole, answers-narrowed}
-use Rattle.reduce.proofs.radial.simplify_radial_dist.Reads.{Post as Radial}
-use Rattle.reduce.proofs.dp.simplify_douglas_peucker.Reads.{Post as Douglas-peucker}
 use Rattle.reduce.proofs.narrow.reduce.Reads.{Post as Reduce}
 
--- ---- each contract leaves no choice: of equal arguments it allows one answer, and one last content of every buffer. `Post` is the contract
+-- ---- the contract leaves no choice: of equal arguments it allows one answer, and one last content of every buffer. `Post` is the contract
 -- itself, as Rattle reads it off the source, at arguments `a`, a result `r` and parameters at exit `s`.
-
-pub radial-determined : (κs : _) (a a′ : _) (r r′ : _) (s s′ : _) → Radial κs a r s → Radial κs a′ r′ s′ →
-    now (a .0) ≡ now (a′ .0) → a .1 .0 ≡ a′ .1 .0 → now (a .1 .1 .0) ≡ now (a′ .1 .1 .0) →
-    _≡_ {A = Points} (record { answer = r; out = now (s .1 .1 .0) }) (record { answer = r′; out = now (s′ .1 .1 .0) })
-radial-determined κs a a′ r r′ s s′ p q list tolerance out =
-    p ∙ ap₂ (λ (l : List ℤ) (t : Float). radialOf l t (now (a .1 .1 .0))) list tolerance ∙ ap (radialOf (now (a′ .0)) (a′ .1 .0)) out ∙ sym q
-
-pub douglas-peucker-determined : (κs : _) (a a′ : _) (r r′ : _) (s s′ : _) → Douglas-peucker κs a r s → Douglas-peucker κs a′ r′ s′ →
-    now (a .0) ≡ now (a′ .0) → a .1 .0 ≡ a′ .1 .0 → now (a .1 .1 .0) ≡ now (a′ .1 .1 .0) → now (a .1 .1 .1 .0) ≡ now (a′ .1 .1 .1 .0) →
-    _≡_ {A = Marked} (record { answer = r; out = now (s .1 .1 .0); marks = now (s .1 .1 .1 .0) })
-    (record { answer = r′; out = now (s′ .1 .1 .0); marks = now (s′ .1 .1 .1 .0) })
-douglas-peucker-determined κs a a′ r r′ s s′ p q list tolerance out marks =
-    p
-    ∙ ap₂ (λ (l : List ℤ) (t : Float). douglasPeuckerOf l t (now (a .1 .1 .0)) (now (a .1 .1 .1 .0))) list tolerance
-    ∙ ap₂ (douglasPeuckerOf (now (a′ .0)) (a′ .1 .0)) out marks
-    ∙ sym q
 
 pub reduce-determined : (κs : _) (a a′ : _) (r r′ : _) (s s′ : _) → Reduce κs a r s → Reduce κs a′ r′ s′ →
     now (a .0) ≡ now (a′ .0) → a .1 .0 ≡ a′ .1 .0 → now (a .1 .1 .0) ≡ now (a′ .1 .1 .0) → now (a .1 .1 .1 .0) ≡ now (a′ .1 .1 .1 .0) →
@@ -66,26 +50,6 @@ reduce-determined κs a a′ r r′ s s′ p q list tolerance out scratch marks 
     ∙ sym q
 
 -- ---- a refusal changes no buffer
-
-pub radial-unchanged : (list : List ℤ) (tolerance : Float) (out : List ℤ) (r : Refusal) → radialOf list tolerance out .answer ≡ Refused r →
-    radialOf list tolerance out .out ≡ out
-unfolding radialOf
-radial-unchanged list tolerance out r = by (radialRefusal list tolerance out)
-  where
-    by : (o : Option Refusal) → radialOutcome o list tolerance out .answer ≡ Refused r → radialOutcome o list tolerance out .out ≡ out
-    by (some q) e = refl
-    by none e = let z : _≡_ {A = ℕ} 0 1 = cc in absurd (omega arith)
-
-pub douglas-peucker-unchanged : (list : List ℤ) (tolerance : Float) (out : List ℤ) (marks : List ℕ) (r : Refusal) →
-    douglasPeuckerOf list tolerance out marks .answer ≡ Refused r →
-    (douglasPeuckerOf list tolerance out marks .out ≡ out) × (douglasPeuckerOf list tolerance out marks .marks ≡ marks)
-unfolding douglasPeuckerOf
-douglas-peucker-unchanged list tolerance out marks r = by (splitRefusal list tolerance out marks)
-  where
-    by : (o : Option Refusal) → splitOutcome o list tolerance out marks .answer ≡ Refused r →
-        (splitOutcome o list tolerance out marks .out ≡ out) × (splitOutcome o list tolerance out marks .marks ≡ marks)
-    by (some q) e = (refl, refl)
-    by none e = let z : _≡_ {A = ℕ} 0 1 = cc in absurd (omega arith)
 
 pub reduce-unchanged : (list : List ℤ) (tolerance : Float) (out scratch : List ℤ) (marks : List ℕ) (r : Refusal) →
     reduceOf list tolerance out scratch marks .answer ≡ Refused r →
@@ -111,32 +75,6 @@ reduce-unchanged list tolerance out scratch marks r = by (reduceRefusal list tol
     by none e = absurd (none-refused (inWhole list tolerance) refl e)
 
 -- ---- what an answer counts has its place in the buffer
-
-pub radial-fits : (list : List ℤ) (tolerance : Float) (out : List ℤ) → countOf (radialOf list tolerance out .answer) * 2 ≤ length out
-unfolding radialOf
-radial-fits list tolerance out = by (radialRefusal list tolerance out) refl
-  where
-    by : (o : Option Refusal) → radialRefusal list tolerance out ≡ o → countOf (radialOutcome o list tolerance out .answer) * 2 ≤ length out
-    by (some q) e = omega arith
-    by none e =
-        let good = next _ (badPoints list) _ (next _ (tooMany (length list)) _ e .1) .1 in
-        let room = next _ (shortFor (count list) out) _ (next _ (badSqTolerance tolerance) _ good .1) .0 in
-        places (count list) (length (radial tolerance (points list))) out room
-        (omega (arith, radial-shorter tolerance (points list), length-points list, places-enough (count list)))
-
-pub douglas-peucker-fits : (list : List ℤ) (tolerance : Float) (out : List ℤ) (marks : List ℕ) →
-    countOf (douglasPeuckerOf list tolerance out marks .answer) * 2 ≤ length out
-unfolding douglasPeuckerOf
-douglas-peucker-fits list tolerance out marks = by (splitRefusal list tolerance out marks) refl
-  where
-    by : (o : Option Refusal) → splitRefusal list tolerance out marks ≡ o → countOf (splitOutcome o list tolerance out marks .answer) * 2 ≤ length out
-    by (some q) e = omega arith
-    by none e =
-        let good = next _ (badPoints list) _ (next _ (tooMany (length list)) _ e .1) .1 in
-        let fine = next _ (badSqTolerance tolerance) _ (next _ (eqb (count list) 0) _ good .1) .1 in
-        let room = next _ (shortFor (count list) out || ltb (length marks) (count list)) _ fine .0 in
-        places (count list) (length (kept (marksOf tolerance list) (points list))) out
-        (both-false (shortFor (count list) out) (ltb (length marks) (count list)) room .0) (marks-fit (marksOf tolerance list) list)
 
 pub reduce-fits : (list : List ℤ) (tolerance : Float) (out scratch : List ℤ) (marks : List ℕ) →
     countOf (reduceOf list tolerance out scratch marks .answer) * 2 ≤ length out

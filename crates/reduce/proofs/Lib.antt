@@ -1,4 +1,4 @@
-pub mod Far
-pub mod Marks
+-- Laws, leaves first: `Claims` has what callers cite.
+pub mod Halves
 pub mod Lines
 pub mod Claims

@@ -1,77 +1,33 @@
--- What each call answers, and what every buffer lent to it then holds. A list is laid `over` the start of a buffer: "places past the
--- answer hold theirs". What `numbers` and `zoom` answer is said in the crate `zooms`, and passed on here.
+-- What `reduce` answers, and what every buffer lent to it then holds. A list is laid `over` the start of a buffer: "places past the answer hold
+-- theirs". What the other calls answer is said in the crates `radial_dist`, `douglas_peucker` and `zooms`, and passed on here.
 use Prim.Native.Nat.{ℕ, _*_}
 use mathlib.Core.Bool.{true, false, _||_}
 use mathlib.Core.List.{List}
 use mathlib.Core.Option.{Option, some, none}
-use lib.Dec.{ltb, leb, eqb}
+use lib.Dec.{ltb, leb}
 use lib.IntN.{ℤ, pos}
 use lib.Ieee.{Float, binary64, ofInt, ofBits, mul, eq}
 use lib.ListN.{length}
 use Rattle.laws.specs.Lists.{over}
-use Rattle.point.specs.Limits.{tooMany, badPoints, badTolerance, badSqTolerance}
+use Rattle.point.specs.Limits.{tooMany, badPoints, badTolerance}
 use Rattle.point.specs.Points.{flat, points}
 use Rattle.point.specs.Refusals.{refuse_when_or_}
 use Rattle.point.specs.declared.Answer.{Answer}
 use Rattle.point.specs.declared.Answer.the-variants.{Done, Refused}
 use Rattle.point.specs.declared.Refusal.{Refusal}
-use Rattle.point.specs.declared.Refusal.the-variants.{TooMany, BadPoint, TooFew, BadTolerance, NoRoom}
+use Rattle.point.specs.declared.Refusal.the-variants.{TooMany, BadPoint, BadTolerance, NoRoom}
 use Rattle.outline.specs.Points.{count}
 use Rattle.split.specs.Tree.{marksOf}
-use Rattle.zooms.specs.Calls.{shortFor, handed}
-use Rattle.zooms.specs.Kept.{kept}
-pub use Rattle.zooms.specs.Calls.{Points, Numbered}
+use Rattle.keeping.specs.Calls.{shortFor}
+use Rattle.keeping.specs.Kept.{kept}
+use Rattle.radial_dist.specs.Radial.{radial}
+use Rattle.douglas_peucker.specs.Calls.{split}
+pub use Rattle.keeping.specs.Calls.{Points}
+pub use Rattle.douglas_peucker.specs.Calls.{Marked}
+pub use Rattle.zooms.specs.Calls.{Numbered}
+unfoldable pub use Rattle.radial_dist.specs.Calls.{radialOf}
+unfoldable pub use Rattle.douglas_peucker.specs.Calls.{douglasPeuckerOf}
 unfoldable pub use Rattle.zooms.specs.Calls.{numberedOf, zoomOf}
-use Rattle.reduce.specs.Radial.{radial}
-
--- ---- simplify_radial_dist
-
-abbrev pub radialRefusal : List ℤ → Float → List ℤ → Option Refusal
-radialRefusal list tolerance out =
-    refuse TooMany when tooMany (length list) or
-    refuse BadPoint when badPoints list or
-    refuse BadTolerance when badSqTolerance tolerance or
-    refuse NoRoom when shortFor (count list) out or
-    none
-
-unfoldable pub radialOutcome : Option Refusal → List ℤ → Float → List ℤ → Points
-unfolding radial flat points over
-radialOutcome (some r) list tolerance out = record { answer = Refused r; out = out }
-radialOutcome none list tolerance out = handed (radial tolerance (points list)) out
-
-unfoldable pub radialOf : List ℤ → Float → List ℤ → Points
-unfolding radialOutcome
-radialOf list tolerance out = radialOutcome (radialRefusal list tolerance out) list tolerance out
-
--- ---- simplify_douglas_peucker
-
-pub record Marked : Type 0 where
-  pub answer : Answer
-  pub out : List ℤ
-  pub marks : List ℕ
-
-abbrev pub splitRefusal : List ℤ → Float → List ℤ → List ℕ → Option Refusal
-splitRefusal list tolerance out marks =
-    refuse TooMany when tooMany (length list) or
-    refuse BadPoint when badPoints list or
-    refuse TooFew when eqb (count list) 0 or
-    refuse BadTolerance when badSqTolerance tolerance or
-    refuse NoRoom when shortFor (count list) out || ltb (length marks) (count list) or
-    none
-
-abbrev pub split : List ℤ → Float → List ℤ → List ℕ → Marked
-split list tolerance out marks =
-    let ps = kept (marksOf tolerance list) (points list) in
-    record { answer = Done (length ps); out = over (flat ps) out; marks = over (marksOf tolerance list) marks }
-
-unfoldable pub splitOutcome : Option Refusal → List ℤ → Float → List ℤ → List ℕ → Marked
-unfolding kept marksOf flat points over
-splitOutcome (some r) list tolerance out marks = record { answer = Refused r; out = out; marks = marks }
-splitOutcome none list tolerance out marks = split list tolerance out marks
-
-unfoldable pub douglasPeuckerOf : List ℤ → Float → List ℤ → List ℕ → Marked
-unfolding splitOutcome
-douglasPeuckerOf list tolerance out marks = splitOutcome (splitRefusal list tolerance out marks) list tolerance out marks
 
 -- ---- reduce
 

@@ -2,24 +2,12 @@
 use mathlib.Core.List.{[], _∷_}
 use mathlib.Core.Path.{_≡_, refl}
 use lib.IntN.{pos}
-use lib.Ieee.{nan, binary64, ofInt, ofBits, add, sub, mul, div, lt, ne, eq, le}
+use lib.Ieee.{binary64, ofInt, ofBits, add, sub, mul, div, lt, ne, eq, le}
 use Rattle.point.specs.Limits.{badList}
-use Rattle.point.specs.declared.Answer.the-variants.{Done, Refused}
-use Rattle.point.specs.declared.Refusal.the-variants.{BadPoint, TooFew, BadTolerance}
+use Rattle.point.specs.declared.Answer.the-variants.{Done}
 use Rattle.split.specs.Distance.{sqSegDist}
 use Rattle.reduce.specs.Distance.{sqDist}
-use Rattle.reduce.specs.Calls.{radialOf, douglasPeuckerOf, reduceOf}
-
--- P7 and P8: radial (0,0) (3,4) (6,8) at 25 drops the middle, at 24 keeps it
-radial-at-25 : radialOf (pos 0 ∷ pos 0 ∷ pos 3 ∷ pos 4 ∷ pos 6 ∷ pos 8 ∷ []) (ofInt binary64 (pos 25)) (pos 9 ∷ pos 9 ∷ pos 9 ∷ pos 9 ∷ pos 9 ∷ pos 9 ∷ [])
-    ≡ record { answer = Done 2; out = pos 0 ∷ pos 0 ∷ pos 6 ∷ pos 8 ∷ pos 9 ∷ pos 9 ∷ [] }
-unfolding radialOf badList sqDist ofInt le lt
-radial-at-25 = refl
-
-radial-at-24 : radialOf (pos 0 ∷ pos 0 ∷ pos 3 ∷ pos 4 ∷ pos 6 ∷ pos 8 ∷ []) (ofInt binary64 (pos 24)) (pos 9 ∷ pos 9 ∷ pos 9 ∷ pos 9 ∷ pos 9 ∷ pos 9 ∷ [])
-    ≡ record { answer = Done 3; out = pos 0 ∷ pos 0 ∷ pos 3 ∷ pos 4 ∷ pos 6 ∷ pos 8 ∷ [] }
-unfolding radialOf badList sqDist ofInt le lt
-radial-at-24 = refl
+use Rattle.reduce.specs.Calls.{reduceOf}
 
 -- P11: `reduce` of the pixel's outline, tolerance 3: (0,0) (0,0)
 pixel-at-3 : reduceOf (pos 0 ∷ pos 0 ∷ pos 1 ∷ pos 0 ∷ pos 1 ∷ pos 1 ∷ pos 0 ∷ pos 1 ∷ pos 0 ∷ pos 0 ∷ []) (ofInt binary64 (pos 3))
@@ -34,31 +22,8 @@ pixel-at-3 : reduceOf (pos 0 ∷ pos 0 ∷ pos 1 ∷ pos 0 ∷ pos 1 ∷ pos 1 �
 unfolding reduceOf badList sqDist sqSegDist ofInt ofBits add sub mul div lt ne eq le
 pixel-at-3 = refl
 
--- "Douglas-Peucker of one point gives it twice", and its mark is one 1; the radial pass and `reduce` give it once
-one-split : douglasPeuckerOf (pos 7 ∷ pos 8 ∷ []) (ofInt binary64 (pos 0)) (pos 9 ∷ pos 9 ∷ pos 9 ∷ pos 9 ∷ []) (5 ∷ 5 ∷ [])
-    ≡ record { answer = Done 2; out = pos 7 ∷ pos 8 ∷ pos 7 ∷ pos 8 ∷ []; marks = 1 ∷ 5 ∷ [] }
-unfolding douglasPeuckerOf badList ofInt le
-one-split = refl
-
-one-radial : radialOf (pos 7 ∷ pos 8 ∷ []) (ofInt binary64 (pos 0)) (pos 9 ∷ pos 9 ∷ pos 9 ∷ pos 9 ∷ [])
-    ≡ record { answer = Done 1; out = pos 7 ∷ pos 8 ∷ pos 9 ∷ pos 9 ∷ [] }
-unfolding radialOf badList ofInt le
-one-radial = refl
-
+-- of one point it is given once
 one-reduced : reduceOf (pos 7 ∷ pos 8 ∷ []) (ofInt binary64 (pos 3)) (pos 9 ∷ pos 9 ∷ pos 9 ∷ pos 9 ∷ []) (pos 6 ∷ pos 6 ∷ []) (5 ∷ [])
     ≡ record { answer = Done 1; out = pos 7 ∷ pos 8 ∷ pos 9 ∷ pos 9 ∷ []; scratch = pos 6 ∷ pos 6 ∷ []; marks = 5 ∷ [] }
 unfolding reduceOf badList ofInt le
 one-reduced = refl
-
--- "The lowest that applies is given": half a point before no tolerance and no room; no points before no tolerance; no tolerance before no room
-half-a-point : douglasPeuckerOf (pos 7 ∷ []) nan [] [] ≡ record { answer = Refused BadPoint; out = []; marks = [] }
-unfolding douglasPeuckerOf badList
-half-a-point = refl
-
-no-points : douglasPeuckerOf [] nan [] [] ≡ record { answer = Refused TooFew; out = []; marks = [] }
-unfolding douglasPeuckerOf badList
-no-points = refl
-
-no-tolerance : douglasPeuckerOf (pos 7 ∷ pos 8 ∷ []) nan [] [] ≡ record { answer = Refused BadTolerance; out = []; marks = [] }
-unfolding douglasPeuckerOf badList ofInt le
-no-tolerance = refl

@@ -1,23 +1,13 @@
 // Both passes together.
-ghost use Prim.Native.Nat.{_*_, _≤_};
-ghost use mathlib.Core.Bool.{false, _||_};
-ghost use mathlib.Core.List.{[]};
-ghost use mathlib.Core.Option.{none};
+ghost use mathlib.Core.Bool.{true, false, _||_};
 ghost use mathlib.Core.Path.{_≡_};
-ghost use lib.Dec.{leb, ltb};
+ghost use lib.Dec.{leb};
 ghost use lib.Ieee.{binary64, ofBits, eq};
-ghost use lib.ListN.{length, take};
-ghost use Rattle.point.specs.Limits.{badPoints, placesFor};
-ghost use Rattle.point.specs.Points.{points as pointsOf};
-ghost use Rattle.point.specs.Refusals.{if_then_else_};
-ghost use Rattle.point.specs.declared.Answer.the-variants.{Done};
-ghost use Rattle.reduce.specs.Radial.{radial};
-ghost use Rattle.outline.specs.Written.{Handed};
-ghost use Rattle.reduce.specs.Ready.{Ready};
-ghost use Rattle.reduce.specs.Calls.{reduceOutcome, reduceOf};
-use crate::dp::keep_marked;
-use crate::lists::copy;
-use crate::radial::keep_far;
+ghost use lib.ListN.{length};
+ghost use Rattle.point.specs.Limits.{tooMany};
+ghost use Rattle.outline.specs.Points.{count};
+ghost use Rattle.reduce.specs.Ready.{short, goesOn};
+ghost use Rattle.reduce.specs.Calls.{reduceOf};
 use point::Answer;
 use point::Refusal;
 
@@ -37,21 +27,37 @@ pub fn reduce(
     if point::too_many(points.len()) {
         return Answer::Refused(Refusal::TooMany);
     }
-    if point::bad_points(points) {
-        return Answer::Refused(Refusal::BadPoint);
+    if goes_on(
+        points.len() / 2,
+        tolerance,
+        out.len(),
+        scratch.len(),
+        marks.len(),
+    ) {
+        return narrow(points, tolerance, out, scratch, marks);
     }
+    whole(points, tolerance, out, scratch, marks)
+}
+
+// Whether a list is neither answered whole nor refused, unless for its points.
+fn goes_on(n: usize, tolerance: f64, out: usize, scratch: usize, marks: usize) -> bool
+    ensures { λ r. ⌜ r ≡ goesOn n tolerance out scratch marks ⌝ }
+{
     if point::bad_tolerance(tolerance) {
-        return Answer::Refused(Refusal::BadTolerance);
+        return false;
     }
-    if short(points.len() / 2, out.len(), scratch.len(), marks.len()) {
-        return Answer::Refused(Refusal::NoRoom);
+    if short(n, out, scratch, marks) {
+        return false;
     }
-    Answer::Done(narrow(points, tolerance, out, scratch, marks))
+    if is_whole(n, tolerance) {
+        return false;
+    }
+    true
 }
 
 // Whether buffers of so many values and marks are too short for `n` points.
 fn short(n: usize, out: usize, scratch: usize, marks: usize) -> bool
-    ensures { λ r. ⌜ r ≡ (ltb out (placesFor n * 2) || ltb scratch (n * 2) || ltb marks n) ⌝ }
+    ensures { λ r. ⌜ r ≡ short n out scratch marks ⌝ }
 {
     if out / 2 < point::places_for(n) {
         return true;
@@ -62,31 +68,6 @@ fn short(n: usize, out: usize, scratch: usize, marks: usize) -> bool
     marks < n
 }
 
-// The same where nothing is refused.
-fn narrow(
-    points: &[i32],
-    tolerance: f64,
-    out: &mut [i32],
-    scratch: &mut [i32],
-    marks: &mut [u8],
-) -> usize
-    requires { ⌜ Ready (now points) (now out) (now scratch) (now marks) ⌝ }
-    ensures { λ r. ⌜ record { answer = Done r; out = now (out .exit); scratch = now (scratch .exit); marks = now (marks .exit) }
-        ≡ reduceOutcome none (now (points .entry)) tolerance (now (out .entry)) (now (scratch .entry)) (now (marks .entry)) ⌝ }
-{
-    let n = points.len() / 2;
-    let whole = is_whole(n, tolerance);
-    let sq_tolerance = tolerance * tolerance;
-    let kept = radial_unless(whole, points, sq_tolerance * 0.5, scratch);
-    let list = list_of(whole, points, scratch, kept);
-    if whole {
-        copy(list, out);
-        return n;
-    }
-    split::mark(list, sq_tolerance, marks);
-    keep_marked(list, marks, out)
-}
-
 // Whether a list is answered whole.
 fn is_whole(n: usize, tolerance: f64) -> bool
     ensures { λ r. ⌜ r ≡ (leb n 2 || eq tolerance (ofBits binary64 0)) ⌝ }
@@ -94,26 +75,45 @@ fn is_whole(n: usize, tolerance: f64) -> bool
     n <= 2 || tolerance == 0.0
 }
 
-// Writes the radial list to the start of `scratch` and answers how many points it has: none where
-// the list is answered whole.
-fn radial_unless(whole: bool, points: &[i32], tolerance: f64, scratch: &mut [i32]) -> usize
-    requires { ⌜ (badPoints (now points) ≡ false) × (length (now points) ≤ length (now scratch)) ⌝ }
-    ensures { λ r. ⌜ Handed (if whole then [] else radial tolerance (pointsOf (now (points .entry)))) (now (scratch .entry)) r (now (scratch .exit)) ⌝ }
+// The same where the list does not go on: it is refused, or answered whole.
+fn whole(points: &[i32], tolerance: f64, out: &mut [i32], scratch: &[i32], marks: &[u8]) -> Answer
+    requires { ⌜ (tooMany (length (now points)) ≡ false)
+        × (goesOn (count (now points)) tolerance (length (now out)) (length (now scratch)) (length (now marks)) ≡ false) ⌝ }
+    ensures { λ r. ⌜ record { answer = r; out = now (out .exit); scratch = now (scratch .entry); marks = now (marks .entry) }
+        ≡ reduceOf (now (points .entry)) tolerance (now (out .entry)) (now (scratch .entry)) (now (marks .entry)) ⌝ }
 {
-    if whole {
-        return 0;
+    if point::bad_points(points) {
+        return Answer::Refused(Refusal::BadPoint);
     }
-    keep_far(points, tolerance, scratch)
+    if point::bad_tolerance(tolerance) {
+        return Answer::Refused(Refusal::BadTolerance);
+    }
+    if short(points.len() / 2, out.len(), scratch.len(), marks.len()) {
+        return Answer::Refused(Refusal::NoRoom);
+    }
+    keeping::keep_all(points, out)
 }
 
-// The list that `reduce` goes on with: the caller's points, or the radial list at the start of
-// `scratch`.
-fn list_of<'a>(whole: bool, points: &'a [i32], scratch: &'a [i32], kept: usize) -> &'a [i32]
-    requires { ⌜ kept * 2 ≤ length (now scratch) ⌝ }
-    ensures { λ r. ⌜ now r ≡ (if whole then now (points .entry) else take (kept * 2) (now (scratch .entry))) ⌝ }
+// The same where the list goes on. The radial pass judges its points, and keeps one at least.
+fn narrow(
+    points: &[i32],
+    tolerance: f64,
+    out: &mut [i32],
+    scratch: &mut [i32],
+    marks: &mut [u8],
+) -> Answer
+    requires { ⌜ (tooMany (length (now points)) ≡ false)
+        × (goesOn (count (now points)) tolerance (length (now out)) (length (now scratch)) (length (now marks)) ≡ true) ⌝ }
+    ensures { λ r. ⌜ record { answer = r; out = now (out .exit); scratch = now (scratch .exit); marks = now (marks .exit) }
+        ≡ reduceOf (now (points .entry)) tolerance (now (out .entry)) (now (scratch .entry)) (now (marks .entry)) ⌝ }
 {
-    if whole {
-        return points;
+    let sq_tolerance = tolerance * tolerance;
+    let answer = radial_dist::simplify_radial_dist(points, sq_tolerance * 0.5, scratch);
+    let kept = answer.count();
+    if kept == 0 {
+        return Answer::Refused(Refusal::BadPoint);
     }
-    &scratch[0..kept * 2]
+    let list = &scratch[0..kept * 2];
+    split::mark(list, sq_tolerance, marks);
+    keeping::keep_marked(list, marks, out)
 }

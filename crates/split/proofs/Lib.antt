@@ -1,8 +1,6 @@
 -- Laws, leaves first: `Claims` has what callers cite.
-pub mod Tolerances
-pub mod Distances
-pub mod Farthest
 pub mod Trees
+pub mod Signs
 pub mod Cuts
 pub mod Stores
 pub mod Spans

@@ -1,25 +1,19 @@
--- The tree of a span: it is split at the farthest point, which lies inside; more fuel than the span is long changes nothing; it has a split
--- for each point inside; and what holds of every distance between the span's points holds of every distance in it. Assumes nothing.
+-- The tree of a span: it is split at the farthest point, which lies inside; more fuel than the span is long changes nothing; and it has a split
+-- for each point inside. Assumes nothing.
 use Prim.Native.Nat.{ℕ, zero, suc, _-_, _≤_, _<_}
 use mathlib.Core.Bool.{Bool, true, false}
 use mathlib.Core.List.{List}
-use mathlib.Core.Logic.{_⊎_, inl, inr}
 use mathlib.Core.Path.{_≡_, refl, sym, ap, ap₂, subst, _∙_}
-use native.Mathlib.Nat.{le-refl, eq-or-lt-of-le}
+use native.Mathlib.Nat.{le-refl}
 use native.Mathlib.Omega.{arith}
 use lib.Dec.{ltb}
 use lib.IntN.{ℤ}
-use lib.Ieee.{Float, lt}
+use lib.Ieee.{Float}
 use borrow.Author.Tests.{ltb-true, ltb-false, lt-ltb, le-ltb}
-use Rattle.laws.specs.Order.{AtLeastZero, at-least-zero}
-use Rattle.split.specs.declared.span.Far.{Far}
-use Rattle.split.specs.Tree.{Tree, leaf, node, pointAt, distanceIn, farther, farthest, treeOf, spanTree, size}
-use Rattle.split.specs.Spans.{SmallSpan, Distance, farthestAbove}
-use Rattle.split.proofs.Distances.{distance-nonneg, distance-fits}
-use Rattle.split.proofs.Farthest.{far as farAt, Over, farther-any, farther-within, farther-greatest, farther-at-least, farther-earliest-from, over-first, over-rest}
-
-pub at-least : {x : Float} → Distance x → AtLeastZero x
-at-least p = at-least-zero (p .nonneg)
+use Rattle.spans.specs.declared.span.Far.{Far}
+use Rattle.spans.specs.Farthest.{distanceIn, farther, farthest}
+use Rattle.spans.proofs.Folds.{far as farAt, farther-within}
+use Rattle.split.specs.Tree.{Tree, leaf, node, treeOf, spanTree, size}
 
 -- ---- every distance of a tree
 
@@ -32,20 +26,6 @@ unfolding Each
 each-map leaf f q = tt
 each-map (node k d below above) f q = (f d (q .0), each-map below f (q .1), each-map above f (q .2))
 
--- ---- the distances of a span
-
-module _ (points : List ℤ) where
-  pub span-part : {f l : ℕ} (f′ l′ : ℕ) → SmallSpan points f l → f ≤ f′ → l′ ≤ l → SmallSpan points f′ l′
-  span-part f′ l′ s p q = record { small = λ k a b. s .small k (omega arith) (omega arith) }
-
-  pub span-distance : {f l : ℕ} → SmallSpan points f l → (k : ℕ) → f ≤ k → k ≤ l → Distance (distanceIn points f l k)
-  span-distance {f} {l} s k p q = record {
-    nonneg =
-        distance-nonneg (pointAt points k) (pointAt points f) (pointAt points l)
-        (s .small k p q .small-at) (s .small f (le-refl f) (omega arith) .small-at) (s .small l (omega arith) (le-refl l) .small-at);
-    fitting = distance-fits (pointAt points k) (pointAt points f) (pointAt points l);
-  }
-
 -- ---- where a span is split
 
 -- the position, and its distance
@@ -55,88 +35,12 @@ middle points f l = farthest points f l .index
 abbrev pub reach : List ℤ → ℕ → ℕ → Float
 reach points f l = farthest points f l .distance
 
-module _ (points : List ℤ) (f l : ℕ) (inside : suc f < l) where
-  abbrev n : ℕ
-  n = l - suc (suc f)
-
-  abbrev d : ℕ → Float
-  d = distanceIn points f l
-
-  -- inside
-  pub split-inside : (f < middle points f l) × (middle points f l < l)
-  unfolding farthest
-  split-inside = farther-within d n (suc (suc f)) (farAt (suc f) (d (suc f))) (suc f) l (le-refl (suc f)) inside (omega arith) (omega arith)
-
-  module _ (s : SmallSpan points f l) where
-    pub inner : Over AtLeastZero d (suc n) (suc f)
-    inner i p q = at-least (span-distance points s i (omega arith) (omega arith))
-
-    -- at a distance
-    pub split-distance : Distance (reach points f l)
-    unfolding farthest
-    split-distance =
-        farther-any d Distance n (suc (suc f)) (farAt (suc f) (d (suc f)))
-        (λ i p q. span-distance points s i (omega arith) (omega arith)) (span-distance points s (suc f) (omega arith) (omega arith))
-
-    -- than which none inside is greater
-    pub split-greatest : (k : ℕ) → f < k → k < l → lt (reach points f l) (d k) ≡ false
-    unfolding farthest
-    split-greatest k p q = go (eq-or-lt-of-le p)
-      where
-        rest : Over AtLeastZero d n (suc (suc f))
-        rest = over-rest AtLeastZero d n (suc f) inner
-
-        one : AtLeastZero (d (suc f))
-        one = over-first AtLeastZero d n (suc f) inner
-
-        go : (suc f ≡ k) ⊎ (suc f < k) → lt (farther d n (suc (suc f)) (farAt (suc f) (d (suc f))) .distance) (d k) ≡ false
-        go (inl e) =
-            subst (λ (j : ℕ). lt (farther d n (suc (suc f)) (farAt (suc f) (d (suc f))) .distance) (d j) ≡ false) e
-            (farther-at-least d n (suc (suc f)) (farAt (suc f) (d (suc f))) rest one)
-        go (inr g) = farther-greatest d n (suc (suc f)) (farAt (suc f) (d (suc f))) rest one k g (omega arith)
-
-    -- and before which each is less
-    pub split-earliest : (k : ℕ) → f < k → k < middle points f l → lt (d k) (reach points f l) ≡ true
-    unfolding farthest
-    split-earliest k p = farther-earliest-from d n (suc f) inner k p
-
--- ---- the same above a floor
-
-module _ (points : List ℤ) (f l : ℕ) (floor : Float) (inside : suc f < l) where
-  pub above-found : lt floor (reach points f l) ≡ true → farthestAbove points f l floor ≡ farthest points f l
-  unfolding farthestAbove
-  above-found e = rw e
-
-  above-none : lt floor (reach points f l) ≡ false → farthestAbove points f l floor ≡ farAt f floor
-  unfolding farthestAbove
-  above-none e = rw e
-
-  pub above-inside : (f ≤ farthestAbove points f l floor .index) × (farthestAbove points f l floor .index < l)
-  above-inside = go (lt floor (reach points f l)) refl
-    where
-      go : (b : Bool) → lt floor (reach points f l) ≡ b → (f ≤ farthestAbove points f l floor .index) × (farthestAbove points f l floor .index < l)
-      go true e = subst (λ (r : Far). (f ≤ r .index) × (r .index < l)) (sym (above-found e)) (let i = split-inside points f l inside in (omega arith, omega arith))
-      go false e = subst (λ (r : Far). (f ≤ r .index) × (r .index < l)) (sym (above-none e)) (le-refl f, omega arith)
-
-  -- at the first end nothing was above; elsewhere it is the farthest, and above
-  pub none-above : farthestAbove points f l floor .index ≡ f → lt floor (reach points f l) ≡ false
-  none-above h = go (lt floor (reach points f l)) refl
-    where
-      no : (x y : ℕ) → x ≡ f → x ≡ y → f < y → ⊥
-      no x y h e i = omega arith
-
-      go : (b : Bool) → lt floor (reach points f l) ≡ b → lt floor (reach points f l) ≡ false
-      go true e = absurd (no (farthestAbove points f l floor .index) (middle points f l) h (ap (λ (r : Far). r .index) (above-found e)) (split-inside points f l inside .0))
-      go false e = e
-
-  pub some-above : (farthestAbove points f l floor .index ≡ f → ⊥)
-      → (farthestAbove points f l floor ≡ farthest points f l) × (lt floor (reach points f l) ≡ true)
-  some-above h = go (lt floor (reach points f l)) refl
-    where
-      go : (b : Bool) → lt floor (reach points f l) ≡ b
-          → (farthestAbove points f l floor ≡ farthest points f l) × (lt floor (reach points f l) ≡ true)
-      go true e = (above-found e, e)
-      go false e = absurd (h (ap (λ (r : Far). r .index) (above-none e)))
+-- inside
+pub split-inside : (points : List ℤ) (f l : ℕ) → suc f < l → (f < middle points f l) × (middle points f l < l)
+unfolding farthest
+split-inside points f l inside =
+    let d = distanceIn points f l in
+    farther-within d (l - suc (suc f)) (suc (suc f)) (farAt (suc f) (d (suc f))) (suc f) l (le-refl (suc f)) inside (omega arith) (omega arith)
 
 -- ---- the tree of a span
 
@@ -213,15 +117,3 @@ module _ (points : List ℤ) where
   span-size =
       by-spans (λ f l t. size t ≡ l - suc f) (λ f l h. omega arith)
       (λ f l o below above p q. let i = split-inside points f l o in omega arith)
-
-  -- each at a distance
-  pub span-distances : (f l : ℕ) → SmallSpan points f l → Each Distance (spanTree points f l)
-  unfolding Each
-  span-distances =
-      by-spans (λ f l t. SmallSpan points f l → Each Distance t) (λ f l h s. tt)
-      (λ f l o below above p q s.
-      let i = split-inside points f l o in (
-        split-distance points f l o s,
-        p (span-part points f (middle points f l) s (omega arith) (omega arith)),
-        q (span-part points (middle points f l) l s (omega arith) (omega arith)),
-      ))

@@ -10,30 +10,8 @@ use lib.ListN.{replicate}
 use Rattle.laws.specs.Least.{least}
 use Rattle.point.specs.Refusals.{if_then_else_}
 pub use Rattle.outline.specs.Points.{count, pointAt}
-use Rattle.split.specs.Distance.{sqSegDist}
-use Rattle.split.specs.declared.span.Far.{Far}
-
--- ---- where a span is split
-
--- how far the point at a position lies from the segment between the ends of a span. `Far` is a position with its distance
-abbrev pub distanceIn : List ℤ → ℕ → ℕ → ℕ → Float
-distanceIn points first last k = sqSegDist (pointAt points k) (pointAt points first) (pointAt points last)
-
--- the farther of two, the first of equals
-abbrev pub fartherOf : Far → Far → Far
-fartherOf a b = if lt (a .distance) (b .distance) then b else a
-
--- the farthest of one and the n positions from k on: "the earliest of equals"
-unfoldable pub farther : (ℕ → Float) → ℕ → ℕ → Far → Far
-farther d zero k best = best
-farther d (suc n) k best = farther d n (suc k) (fartherOf best (record { index = k; distance = d k }))
-
--- "the splitting point is the interior point with the greatest computed squared distance": of a span that has one
-unfoldable pub farthest : List ℤ → ℕ → ℕ → Far
-unfolding farther
-farthest points first last =
-    let d = distanceIn points first last in
-    farther d (last - suc (suc first)) (suc (suc first)) (record { index = suc first; distance = d (suc first) })
+pub use Rattle.spans.specs.Farthest.{distanceIn}
+unfoldable pub use Rattle.spans.specs.Farthest.{farthest}
 
 -- ---- the tree of splits
 

@@ -1,12 +1,12 @@
 // Douglas-Peucker: a span whose points all lie within the tolerance of the segment between its ends
 // loses them; any other is split at the farthest.
-ghost use Prim.Native.Nat.{_+_, _-_, _*_, _<_, _≤_};
+ghost use Prim.Native.Nat.{_+_, _-_, _<_, _≤_};
 ghost use mathlib.Core.Path.{_≡_};
 ghost use lib.ListN.{length, replicate};
 ghost use lib.Seq.{sets};
 ghost use Rattle.split.specs.Marks.{markedOf};
-ghost use Rattle.split.specs.Tree.{spanTree, cut};
-use crate::span::farthest;
+ghost use Rattle.split.specs.Tree.{count, spanTree, cut};
+use crate::span::split_point;
 
 // Puts a mark for each point at the start of `marks`: 1 if it is kept at the squared tolerance, 0 if
 // not. Where there is no point, or no mark for each, nothing is changed.
@@ -27,21 +27,21 @@ pub fn mark(points: &[i32], tolerance: f64, marks: &mut [u8])
 
 // Marks the interior of a span.
 fn mark_span(points: &[i32], first: usize, last: usize, tolerance: f64, marks: &mut [u8])
-    requires { ⌜ (first ≤ last) × (last * 2 + 1 < length (now points)) × (last < length (now marks)) ⌝ }
+    requires { ⌜ (first ≤ last) × (last < count (now points)) × (last < length (now marks)) ⌝ }
     ensures { λ _. ⌜ now (marks .exit) ≡ sets (now (marks .entry)) (first + 1) (cut tolerance (spanTree (now (points .entry)) first last)) ⌝ }
 {
     if last <= first + 1 {
         return;
     }
-    let far = farthest(points, first, last, tolerance);
+    let far = split_point(points, first, last);
     let index = far.index;
-    if index == first {
-        clear(first + 1, last, marks);
+    if tolerance < far.distance {
+        mark_span(points, first, index, tolerance, marks);
+        marks[index] = 1;
+        mark_span(points, index, last, tolerance, marks);
         return;
     }
-    mark_span(points, first, index, tolerance, marks);
-    marks[index] = 1;
-    mark_span(points, index, last, tolerance, marks);
+    clear(first + 1, last, marks);
 }
 
 fn clear(from: usize, to: usize, marks: &mut [u8])

@@ -1,14 +1,14 @@
 // The numbers: a point's is the least distance among its own split and all splits of the spans
 // around it, so that it is kept at exactly the tolerances below it.
-ghost use Prim.Native.Nat.{_+_, _-_, _*_, _<_, _≤_};
+ghost use Prim.Native.Nat.{_+_, _-_, _<_, _≤_};
 ghost use mathlib.Core.Path.{_≡_};
 ghost use lib.ListN.{length, replicate};
 ghost use lib.Seq.{sets};
 ghost use Rattle.laws.specs.Least.{least};
-ghost use Rattle.split.specs.Distance.{zero64};
+ghost use Rattle.spans.specs.Distance.{zero64};
 ghost use Rattle.split.specs.Marks.{numberedOf};
 ghost use Rattle.split.specs.Spans.{Distance};
-ghost use Rattle.split.specs.Tree.{spanTree, down};
+ghost use Rattle.split.specs.Tree.{count, spanTree, down};
 use crate::span::split_point;
 
 // Puts the number of each point at the start of `out`. Where there is no point, or no place for
@@ -33,7 +33,7 @@ pub fn number(points: &[i32], out: &mut [f64])
 // points lie on the segment between the ends every number inside is 0, and no distance is worked
 // out again.
 fn number_span(points: &[i32], first: usize, last: usize, around: f64, out: &mut [f64])
-    requires { ⌜ (first ≤ last) × (last * 2 + 1 < length (now points)) × (last < length (now out)) × Distance around ⌝ }
+    requires { ⌜ (first ≤ last) × (last < count (now points)) × (last < length (now out)) × Distance around ⌝ }
     ensures { λ _. ⌜ now (out .exit) ≡ sets (now (out .entry)) (first + 1) (down around (spanTree (now (points .entry)) first last)) ⌝ }
 {
     if last <= first + 1 {
@@ -54,8 +54,7 @@ fn number_span(points: &[i32], first: usize, last: usize, around: f64, out: &mut
 
 // The lesser of two, the first of equals.
 fn least(a: f64, b: f64) -> f64
-    requires { ⌜ Distance a × Distance b ⌝ }
-    ensures { λ r. ⌜ (r ≡ least a b) × Distance r ⌝ }
+    ensures { λ r. ⌜ r ≡ least a b ⌝ }
 {
     if b < a {
         return b;

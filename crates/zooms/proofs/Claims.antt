@@ -19,9 +19,10 @@ use Rattle.point.specs.declared.Refusal.{Refusal}
 use Rattle.outline.specs.Points.{count}
 use Rattle.outline.proofs.Flat.{length-points}
 use Rattle.outline.proofs.Room.{places-enough}
-use Rattle.zooms.specs.Calls.{Points, Numbered, shortFor, numbersRefusal, numbersOutcome, numberedOf, zoomRefusal, zoomOutcome, zoomOf}
-use Rattle.zooms.specs.Kept.{kept, marksBy}
-use Rattle.zooms.proofs.Select.{kept-fits}
+use Rattle.keeping.specs.Calls.{shortFor}
+use Rattle.keeping.specs.Kept.{kept, marksBy}
+use Rattle.keeping.proofs.Claims.{next, places, marks-fit}
+use Rattle.zooms.specs.Calls.{Points, Numbered, numbersRefusal, numbersOutcome, numberedOf, zoomRefusal, zoomOutcome, zoomOf}
 use Rattle.zooms.proofs.numbering.numbers.Reads.{Post as Numbers}
 use Rattle.zooms.proofs.zooming.zoom.Reads.{Post as Zoom}
 
@@ -62,18 +63,6 @@ zoom-unchanged list numbers tolerance out r = by (zoomRefusal list numbers toler
     by none e = let z : _≡_ {A = ℕ} 0 1 = cc in absurd (omega arith)
 
 -- ---- what an answer counts has its place in the buffer
-
--- a test that is passed, and those after it
-pub next : (r : Refusal) (t : Bool) (rest : Option Refusal) → (refuse r when t or rest) ≡ none → (t ≡ false) × (rest ≡ none)
-next r true rest e = let z : _≡_ {A = ℕ} 0 1 = cc in absurd (omega arith)
-next r false rest e = (refl, e)
-
-pub places : (n m : ℕ) (out : List ℤ) → shortFor n out ≡ false → m ≤ placesFor n → m * 2 ≤ length out
-places n m out e h = omega (arith, ltb-false (length out) (placesFor n * 2) e)
-
--- marks keep no more points of a list than there are places for
-pub marks-fit : (marks : List ℕ) (list : List ℤ) → length (kept marks (points list)) ≤ placesFor (count list)
-marks-fit marks list = rw (length-points list) at (kept-fits marks (points list))
 
 pub zoom-fits : (list : List ℤ) (numbers : List Float) (tolerance : Float) (out : List ℤ) → countOf (zoomOf list numbers tolerance out .answer) * 2 ≤ length out
 unfolding zoomOf

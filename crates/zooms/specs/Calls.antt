@@ -1,7 +1,6 @@
 -- What each call answers, and what every buffer lent to it then holds. A list is laid `over` the start of a buffer: "places past the
 -- answer hold theirs".
-use Prim.Native.Nat.{ℕ, _*_}
-use mathlib.Core.Bool.{Bool, not, _||_}
+use mathlib.Core.Bool.{not, _||_}
 use mathlib.Core.List.{List}
 use mathlib.Core.Option.{Option, some, none}
 use lib.Dec.{ltb, eqb}
@@ -12,18 +11,15 @@ use Rattle.laws.specs.Lists.{over}
 use Rattle.point.specs.Limits.{tooMany, badPoints, badSqTolerance, placesFor}
 use Rattle.point.specs.Points.{flat, points}
 use Rattle.point.specs.Refusals.{refuse_when_or_}
-use Rattle.point.specs.declared.PointI32.{PointI32}
 use Rattle.point.specs.declared.Answer.{Answer}
 use Rattle.point.specs.declared.Answer.the-variants.{Done, Refused}
 use Rattle.point.specs.declared.Refusal.{Refusal}
 use Rattle.point.specs.declared.Refusal.the-variants.{TooMany, BadPoint, TooFew, BadTolerance, NoRoom}
 use Rattle.outline.specs.Points.{count}
 use Rattle.split.specs.Tree.{numbersOf}
-use Rattle.zooms.specs.Kept.{kept, marksBy}
-
--- the buffer is too small for so many points
-abbrev pub shortFor : ℕ → List ℤ → Bool
-shortFor n out = ltb (length out) (placesFor n * 2)
+use Rattle.keeping.specs.Calls.{shortFor, handed}
+pub use Rattle.keeping.specs.Calls.{Points}
+use Rattle.keeping.specs.Kept.{kept, marksBy}
 
 -- ---- numbers
 
@@ -49,13 +45,6 @@ unfolding numbersOutcome
 numberedOf list out = numbersOutcome (numbersRefusal list out) list out
 
 -- ---- zoom
-
-pub record Points : Type 0 where
-  pub answer : Answer
-  pub out : List ℤ
-
-abbrev pub handed : List PointI32 → List ℤ → Points
-handed ps out = record { answer = Done (length ps); out = over (flat ps) out }
 
 -- "a list of numbers that has not one for each point is BadPoint"
 abbrev pub zoomRefusal : List ℤ → List Float → Float → List ℤ → Option Refusal

@@ -1,160 +1,159 @@
--- `reduce::narrow` meets its contract. The part of the scratch that is read back is the radial list, which is split and answered; or nothing
--- is written there, and the caller's points are answered whole. Assumes nothing.
-use Prim.Native.Nat.{ℕ, _*_, _<_, _≤_}
-use mathlib.Core.Bool.{Bool, true, false, _||_}
-use mathlib.Core.List.{List, []}
+-- `reduce::narrow` meets its contract. The radial pass refuses bad points, and else the part of the scratch that is read back is its list, which
+-- is split and answered. Assumes nothing.
+use Prim.Native.Nat.{ℕ, _-_, _*_, _^_, _<_, _≤_}
+use mathlib.Core.Bool.{Bool, true, false}
+use mathlib.Core.List.{List}
 use mathlib.Core.Option.{none}
-use mathlib.Core.Path.{_≡_, sym, ap, _∙_}
+use mathlib.Core.Path.{_≡_, refl, sym, ap, _∙_}
 use native.Mathlib.Omega.{arith}
-use lib.Dec.{leb}
-use lib.Ieee.{Float, binary64, ofBits, ofInt, mul, eq}
+use mir.Syntax.{w64}
+use mir.Val.{Fits}
+use lib.Ieee.{Float, binary64, ofBits, mul}
 use lib.IntN.{ℤ}
 use lib.ListN.{length, take}
 use borrow.Author.Needs.{needs}
-use Rattle.laws.specs.Lists.{over, take-over-all}
-use Rattle.point.specs.Limits.{badPoints, inRange, placesFor}
+use borrow.Author.Tests.{le-ltb}
+use Rattle.laws.specs.Lists.{over, length-over, take-over-all}
+use Rattle.point.specs.Limits.{tooMany, badPoints, badSqTolerance, placesFor}
 use Rattle.point.specs.Points.{flat, points}
-use Rattle.point.specs.Refusals.{if_then_else_}
-use Rattle.point.specs.declared.Answer.the-variants.{Done}
+use Rattle.point.specs.Refusals.{countOf, refuse_when_or_}
+use Rattle.point.specs.declared.Answer.{Answer}
+use Rattle.point.specs.declared.Answer.the-variants.{Done, Refused}
 use Rattle.point.specs.declared.PointI32.{PointI32}
-use Rattle.point.proofs.Claims.{whole-points}
+use Rattle.point.specs.declared.Refusal.the-variants.{BadPoint}
 use Rattle.outline.specs.Points.{count}
-use Rattle.outline.specs.Written.{Handed}
 use Rattle.outline.proofs.Flat.{length-flat, length-points, count-flat}
-use Rattle.outline.proofs.Room.{places-enough, places-shorter}
+use Rattle.outline.proofs.Room.{places-many, places-shorter}
 use Rattle.split.specs.Tree.{marksOf}
 use Rattle.split.specs.Marks.{markedOf}
-use Rattle.split.proofs.Claims.{a-mark-for-each-point}
-use Rattle.split.proofs.Claims.{marked-over}
-use Rattle.zooms.specs.Kept.{kept}
-use Rattle.reduce.specs.Radial.{radial}
-use Rattle.reduce.specs.Calls.{reduceOutcome}
-use Rattle.reduce.proofs.Far.{radial-shorter, radial-some}
-use Rattle.reduce.proofs.Lines.{inWhole, many-points, answers-whole, answers-narrowed}
-use Rattle.reduce.proofs.Marks.{kept-over}
+use Rattle.split.proofs.Claims.{a-mark-for-each-point, marked-over}
+use Rattle.keeping.specs.Calls.{Points, handed, keptMarkedOf}
+use Rattle.keeping.proofs.Claims.{marked-handed}
+use Rattle.keeping.proofs.Marks.{kept-over}
+use Rattle.radial_dist.specs.Radial.{radial}
+use Rattle.radial_dist.specs.Calls.{radialOutcome, radialOf}
+use Rattle.radial_dist.proofs.Far.{radial-shorter, radial-some}
+use Rattle.reduce.specs.Calls.{reduceOutcome, reduceOf}
+use Rattle.reduce.specs.Ready.{short, goesOn}
+use Rattle.reduce.proofs.Halves.{half-fine}
+use Rattle.reduce.proofs.Lines.{inWhole, many-points, answers-narrowed, on-tolerance, on-room, on-narrowed, out-room, scratch-room, marks-room}
 use Rattle.reduce.proofs.narrow.narrow.Statement.{statement}
 use Rattle.reduce.proofs.narrow.narrow.Tie as tie
-
--- the zero of the code is that of the definition
-test-is : (list : List ℤ) (tolerance : Float) (all t : Bool) → all ≡ (leb (count list) 2 || eq tolerance (ofBits binary64 0)) → all ≡ t → inWhole list tolerance ≡ t
-unfolding ofBits ofInt
-test-is list tolerance all t a e = sym a ∙ e
-
--- ---- the scratch, and the list that is read back
-
-list-fits : (list other : List ℤ) → badPoints list ≡ false → count list * 2 ≤ length other → length list ≤ length other
-list-fits list other good h = omega (arith, whole-points inRange list good)
-
-module _ (all : Bool) (list : List ℤ) (half : Float) (scratch : List ℤ) (n : ℕ) (after : List ℤ)
-    (filled : Handed (if all then [] else radial half (points list)) scratch n after) where
-  abbrev ring : List PointI32
-  ring = radial half (points list)
-
-  ring-shorter : length ring ≤ count list
-  ring-shorter = omega (arith, radial-shorter half (points list), length-points list)
-
-  part-fits : length after ≡ length scratch → count list * 2 ≤ length scratch → n * 2 ≤ length after
-  part-fits k h = omega (arith, filled .counted, bound all)
-    where
-      bound : (t : Bool) → length (if t then [] else ring) ≤ count list
-      bound true = omega arith
-      bound false = ring-shorter
-
-  module _ (now : List ℤ) (picked : now ≡ (if all then list else take (n * 2) after)) where
-    -- answered whole: the caller's points
-    module _ (e : all ≡ true) where
-      same-list : now ≡ list
-      same-list = picked ∙ rw e
-
-      same-scratch : after ≡ scratch
-      unfolding flat over
-      same-scratch = filled .written ∙ rw e
-
-      copy-fits : (out : List ℤ) → badPoints list ≡ false → placesFor (count list) * 2 ≤ length out → length now ≤ length out
-      copy-fits out good h = rw same-list (list-fits list out good (omega (arith, places-enough (count list))))
-
-    -- else the radial list
-    module _ (e : all ≡ false) where
-      number-is : n ≡ length ring
-      number-is = filled .counted ∙ rw e
-
-      scratch-is : after ≡ over (flat ring) scratch
-      scratch-is = filled .written ∙ rw e
-
-      list-is : now ≡ flat ring
-      list-is =
-          let l : n * 2 ≡ length (flat ring) = omega (arith, length-flat ring, number-is) in
-          picked ∙ rw (e, l, scratch-is) (take-over-all (flat ring) scratch)
-
-      count-is : count now ≡ length ring
-      count-is = ap count list-is ∙ count-flat ring
-
-      marks-fit : (marks marked : List ℕ) → count list ≤ length marks → length marked ≡ length marks → count now ≤ length marked
-      marks-fit marks marked h k = omega (arith, count-is, ring-shorter)
-
-      out-fits : (tolerance : Float) → all ≡ (leb (count list) 2 || eq tolerance (ofBits binary64 0)) → (out : List ℤ) → placesFor (count list) * 2 ≤ length out →
-          placesFor (count now) * 2 ≤ length out
-      out-fits tolerance a out h =
-          let more : 2 < count list = many-points list tolerance (test-is list tolerance all false a e) in
-          omega (arith, places-shorter (count now) (count list) (omega (arith, count-is, ring-shorter)) (omega arith))
-
--- ---- the returns
 
 -- the tolerance of the radial pass
 abbrev halved : Float → Float
 halved tolerance = mul binary64 (mul binary64 tolerance tolerance) (ofBits binary64 0x3fe0000000000000)
 
-module _ (list : List ℤ) (tolerance : Float) (all : Bool) (a : all ≡ (leb (count list) 2 || eq tolerance (ofBits binary64 0)))
-    (scratch : List ℤ) (n : ℕ) (after : List ℤ) (filled : Handed (if all then [] else radial (halved tolerance) (points list)) scratch n after)
-    (now : List ℤ) (picked : now ≡ (if all then list else take (n * 2) after)) (out : List ℤ) (marks : List ℕ) where
-  copied : all ≡ true → (last : List ℤ) → last ≡ over now out →
-      record { answer = Done (count list); out = last; scratch = after; marks = marks } ≡ reduceOutcome none list tolerance out scratch marks
-  copied t last s =
+module _ (list : List ℤ) (tolerance : Float) (out scratch : List ℤ) (marks : List ℕ) (few : tooMany (length list) ≡ false)
+    (on : goesOn (count list) tolerance (length out) (length scratch) (length marks) ≡ true) where
+  abbrev ring : List PointI32
+  ring = radial (halved tolerance) (points list)
+
+  room : short (count list) (length out) (length scratch) (length marks) ≡ false
+  room = on-room list tolerance out scratch marks on
+
+  more : 2 < count list
+  more = many-points list tolerance (on-narrowed list tolerance out scratch marks on)
+
+  ring-shorter : length ring ≤ count list
+  ring-shorter = omega (arith, radial-shorter (halved tolerance) (points list), length-points list)
+
+  ring-some : 0 < length ring
+  ring-some = radial-some (halved tolerance) (points list) (rw (length-points list) (omega (arith, more)))
+
+  -- the radial pass refuses nothing but bad points
+  judged : (bad : Bool) → badPoints list ≡ bad → radialOf list (halved tolerance) scratch ≡ radialOutcome (refuse BadPoint when bad or none) list (halved tolerance) scratch
+  unfolding radialOf
+  judged bad b =
+      let two : 1 < count list = omega (arith, more) in
       rw (
-        answers-whole list tolerance out scratch marks (test-is list tolerance all true a t),
-        s,
-        same-list all list (halved tolerance) scratch n after filled now picked t,
-        same-scratch all list (halved tolerance) scratch n after filled now picked t,
+        few,
+        b,
+        half-fine tolerance (on-tolerance list tolerance out scratch marks on),
+        places-many (count list) two,
+        le-ltb (length scratch) (count list * 2) (scratch-room list tolerance out scratch marks room),
       )
 
-  fewer : all ≡ false → (marked : List ℕ) → marked ≡ markedOf now (mul binary64 tolerance tolerance) marks → count list ≤ length marks →
-      (k : ℕ) (last : List ℤ) → Handed (kept marked (points now)) out k last →
-      record { answer = Done k; out = last; scratch = after; marks = marked } ≡ reduceOutcome none list tolerance out scratch marks
-  fewer t marked s l k last d =
-      let ps = radial (halved tolerance) (points list) in
-      let sq = mul binary64 tolerance tolerance in
-      let more : 2 < length (points list) = rw (length-points list) (many-points list tolerance (test-is list tolerance all false a t)) in
-      let o : 0 < count (flat ps) = rw (count-flat ps) (radial-some (halved tolerance) (points list) (omega arith)) in
-      let fits : count (flat ps) ≤ length marks = omega (arith, count-flat ps, ring-shorter all list (halved tolerance) scratch n after filled) in
-      let short : length (points (flat ps)) ≤ length (marksOf sq (flat ps)) = rw (a-mark-for-each-point (flat ps) sq o, length-points (flat ps)) (omega arith) in
-      rw (
-        answers-narrowed list tolerance out scratch marks (test-is list tolerance all false a t),
-        d .counted,
-        d .written,
-        s,
-        list-is all list (halved tolerance) scratch n after filled now picked t,
-        scratch-is all list (halved tolerance) scratch n after filled now picked t,
-        marked-over (flat ps) sq marks o fits,
-        kept-over (marksOf sq (flat ps)) marks (points (flat ps)) short,
-      )
+  refused : badPoints list ≡ true → radialOf list (halved tolerance) scratch ≡ record { answer = Refused BadPoint; out = scratch }
+  unfolding radialOutcome
+  refused b = judged true b
+
+  passed : badPoints list ≡ false → radialOf list (halved tolerance) scratch ≡ handed ring scratch
+  unfolding radialOutcome
+  passed b = judged false b
+
+  module _ (answer : Answer) (after : List ℤ) (d : record { answer = answer; out = after } ≡ radialOf list (halved tolerance) scratch)
+      (kept : ℕ) (k : kept ≡ countOf answer) where
+    by-points : (P : Type 0) → (badPoints list ≡ true → kept ≡ 0 → after ≡ scratch → P) → (badPoints list ≡ false → kept ≡ length ring → after ≡ over (flat ring) scratch → P) → P
+    by-points P p q = go (badPoints list) refl
+      where
+        go : (bad : Bool) → badPoints list ≡ bad → P
+        go true b = let e = d ∙ refused b in p b (k ∙ ap (λ (r : Points). countOf (r .answer)) e) (ap (λ (r : Points). r .out) e)
+        go false b = let e = d ∙ passed b in q b (k ∙ ap (λ (r : Points). countOf (r .answer)) e) (ap (λ (r : Points). r .out) e)
+
+    bad-point : kept ≡ 0 → record { answer = Refused BadPoint; out = out; scratch = after; marks = marks } ≡ reduceOf list tolerance out scratch marks
+    unfolding reduceOf
+    bad-point z =
+        by-points (record { answer = Refused BadPoint; out = out; scratch = after; marks = marks } ≡ reduceOf list tolerance out scratch marks)
+        (λ b n e. rw (few, b, e)) (λ b n e. absurd (omega (arith, ring-some)))
+
+    part-fits : length after ≡ length scratch → kept * 2 ≤ length after
+    part-fits l =
+        by-points (kept * 2 ≤ length after) (λ b n e. omega arith)
+        (λ b n e. omega (arith, ring-shorter, scratch-room list tolerance out scratch marks room))
+
+    part-number : length after ≡ length scratch → length scratch < 2 ^ 64 → Fits w64 (kept * 2)
+    part-number l h = omega (arith, part-fits l)
+
+    module _ (some : kept ≡ 0 → ⊥) where
+      good : (badPoints list ≡ false) × (kept ≡ length ring) × (after ≡ over (flat ring) scratch)
+      good = by-points ((badPoints list ≡ false) × (kept ≡ length ring) × (after ≡ over (flat ring) scratch)) (λ b n e. absurd (some n)) (λ b n e. (b, n, e))
+
+      list-is : take (kept * 2 - 0) after ≡ flat ring
+      list-is =
+          let l : kept * 2 - 0 ≡ length (flat ring) = omega (arith, length-flat ring, good .1) in
+          rw (l, good .2) (take-over-all (flat ring) scratch)
+
+      fewer : (marked : List ℕ) → marked ≡ markedOf (take (kept * 2 - 0) after) (mul binary64 tolerance tolerance) marks → (r : Answer) (last : List ℤ) →
+          record { answer = r; out = last } ≡ keptMarkedOf (take (kept * 2 - 0) after) marked out →
+          record { answer = r; out = last; scratch = after; marks = marked } ≡ reduceOf list tolerance out scratch marks
+      unfolding reduceOf short
+      fewer marked s r last e =
+          let sq = mul binary64 tolerance tolerance in
+          let o : 0 < count (flat ring) = rw (count-flat ring) ring-some in
+          let fits : count (flat ring) ≤ length marks = omega (arith, count-flat ring, ring-shorter, marks-room list tolerance out scratch marks room) in
+          let each : length (marksOf sq (flat ring)) ≡ count (flat ring) = a-mark-for-each-point (flat ring) sq o in
+          let enough : length (points (flat ring)) ≤ length (marksOf sq (flat ring)) = rw (each, length-points (flat ring)) (omega arith) in
+          let is : marked ≡ over (marksOf sq (flat ring)) marks = s ∙ ap (λ (l : List ℤ). markedOf l sq marks) list-is ∙ marked-over (flat ring) sq marks o fits in
+          let long : length marked ≡ length marks = ap length is ∙ length-over (marksOf sq (flat ring)) marks (omega arith) in
+          let places : placesFor (count (flat ring)) ≤ placesFor (count list) = places-shorter (count (flat ring)) (count list) (omega (arith, count-flat ring, ring-shorter)) (omega (arith, more)) in
+          let h = e ∙ ap (λ (l : List ℤ). keptMarkedOf l marked out) list-is ∙ marked-handed (flat ring) marked out (omega (arith, out-room list tolerance out scratch marks room)) (omega arith) in
+          rw (few, good .0, on-tolerance list tolerance out scratch marks on, room)
+          (ap (λ (k : Points). record { answer = k .answer; out = k .out; scratch = after; marks = marked }) h
+          ∙ (rw (is, kept-over (marksOf sq (flat ring)) marks (points (flat ring)) enough, good .2))
+          ∙ sym (answers-narrowed list tolerance out scratch marks (on-narrowed list tolerance out scratch marks on)))
 
 returns : tie.Need-returns
-returns c = search (copied, needs)
+returns c = search bad-point
+
+returns-2 : tie.Need-returns-2
+returns-2 c = search fewer
 
 pub narrow-spec : {M : Type 1} → statement M
 narrow-spec =
     tie.close
     (tie.spec
-    (λ c κs. tt)  -- is-whole-requires
-    (λ c κs. search (list-fits, needs))  -- radial-unless-requires
-    (λ c κs. search (part-fits, needs))  -- list-of-requires
-    (λ c κs. search (copy-fits, needs))  -- copy-requires
+    (λ c κs. tt)  -- simplify-radial-dist-requires
+    (λ c κs. tt)  -- count-requires
     (λ c. search needs)  -- same-length
-    (λ c. search needs)  -- same-length-2
     returns
+    (λ c. search (part-number, needs))  -- mul-list
+    (λ c. search needs)  -- sub-list
+    (λ c. search needs)  -- part-list-start
+    (λ c. search (part-fits, needs))  -- part-list-end
     (λ c κs. tt)  -- mark-requires
-    (λ c κs. search (marks-fit, out-fits, needs))  -- keep-marked-requires
+    (λ c κs. tt)  -- keep-marked-requires
+    (λ c. search needs)  -- same-length-2
     (λ c. search needs)  -- same-length-3
     (λ c. search needs)  -- same-length-4
-    (λ c. search needs)  -- same-length-5
-    (λ c. search (fewer, needs)))  -- returns-2
+    returns-2)

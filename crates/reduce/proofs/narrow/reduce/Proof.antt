@@ -1,67 +1,36 @@
 -- `reduce::reduce` meets its contract: at each return the tests on the way pick a line of `reduceOf`. Assumes nothing.
-use Prim.Native.Nat.{ℕ, _*_}
-use mathlib.Core.Bool.{Bool, true, false, _||_}
+use Prim.Native.Nat.{ℕ}
+use mathlib.Core.Bool.{Bool, true, false}
 use mathlib.Core.List.{List}
-use mathlib.Core.Option.{none}
 use mathlib.Core.Path.{_≡_, sym, _∙_}
-use lib.Dec.{ltb}
 use lib.Ieee.{Float}
 use lib.IntN.{ℤ}
 use lib.ListN.{length}
 use borrow.Author.Needs.{needs}
-use borrow.Author.Tests.{ltb-false}
-use Rattle.laws.specs.Joined.{both-false}
-use Rattle.point.specs.Limits.{tooMany, badPoints, badTolerance, placesFor}
-use Rattle.point.specs.declared.Answer.the-variants.{Done, Refused}
-use Rattle.point.specs.declared.Refusal.the-variants.{TooMany, BadPoint, BadTolerance, NoRoom}
+use Rattle.point.specs.Limits.{tooMany}
+use Rattle.point.specs.declared.Answer.the-variants.{Refused}
+use Rattle.point.specs.declared.Refusal.the-variants.{TooMany}
 use Rattle.outline.specs.Points.{count}
-use Rattle.outline.proofs.Room.{not-bad}
-use Rattle.reduce.specs.Calls.{reduceOutcome, reduceOf}
-use Rattle.reduce.specs.Ready.{Ready}
+use Rattle.reduce.specs.Calls.{reduceOf}
+use Rattle.reduce.specs.Ready.{goesOn}
 use Rattle.reduce.proofs.narrow.reduce.Statement.{statement}
 use Rattle.reduce.proofs.narrow.reduce.Tie as tie
-
--- a buffer is too short
-abbrev shortOf : List ℤ → List ℤ → List ℤ → List ℕ → Bool
-shortOf list out scratch marks = ltb (length out) (placesFor (count list) * 2) || ltb (length scratch) (count list * 2) || ltb (length marks) (count list)
 
 module _ (list : List ℤ) (tolerance : Float) (out scratch : List ℤ) (marks : List ℕ) (many : Bool) (m : many ≡ tooMany (length list)) where
   too-many : many ≡ true → record { answer = Refused TooMany; out = out; scratch = scratch; marks = marks } ≡ reduceOf list tolerance out scratch marks
   unfolding reduceOf
   too-many e = rw (← m, e)
 
-  module _ (e : many ≡ false) (bad : Bool) (b : bad ≡ badPoints list) where
-    bad-point : bad ≡ true → record { answer = Refused BadPoint; out = out; scratch = scratch; marks = marks } ≡ reduceOf list tolerance out scratch marks
-    unfolding reduceOf
-    bad-point f = rw (← m, e, ← b, f)
+  module _ (e : many ≡ false) where
+    not-many : tooMany (length list) ≡ false
+    not-many = sym m ∙ e
 
-    module _ (f : bad ≡ false) (wrong : Bool) (w : wrong ≡ badTolerance tolerance) where
-      bad-tolerance : wrong ≡ true → record { answer = Refused BadTolerance; out = out; scratch = scratch; marks = marks } ≡ reduceOf list tolerance out scratch marks
-      unfolding reduceOf
-      bad-tolerance g = rw (← m, e, ← b, f, ← w, g)
+    module _ (on : Bool) (o : on ≡ goesOn (count list) tolerance (length out) (length scratch) (length marks)) where
+      going : on ≡ true → goesOn (count list) tolerance (length out) (length scratch) (length marks) ≡ true
+      going t = sym o ∙ t
 
-      module _ (g : wrong ≡ false) (short : Bool) (s : short ≡ shortOf list out scratch marks) where
-        no-room : short ≡ true → record { answer = Refused NoRoom; out = out; scratch = scratch; marks = marks } ≡ reduceOf list tolerance out scratch marks
-        unfolding reduceOf
-        no-room h = rw (← m, e, ← b, f, ← w, g, ← s, h)
-
-        done : short ≡ false → (n : ℕ) (last after : List ℤ) (marked : List ℕ) →
-            record { answer = Done n; out = last; scratch = after; marks = marked } ≡ reduceOutcome none list tolerance out scratch marks →
-            record { answer = Done n; out = last; scratch = after; marks = marked } ≡ reduceOf list tolerance out scratch marks
-        unfolding reduceOf
-        done h n last after marked o = rw (← m, e, ← b, f, ← w, g, ← s, h) o
-
-ready : (list out scratch : List ℤ) (marks : List ℕ) (bad : Bool) → bad ≡ badPoints list → bad ≡ false →
-    (short : Bool) → short ≡ shortOf list out scratch marks → short ≡ false → Ready list out scratch marks
-ready list out scratch marks bad b f short s h =
-    let three = both-false (ltb (length out) (placesFor (count list) * 2) || ltb (length scratch) (count list * 2)) (ltb (length marks) (count list)) (sym s ∙ h) in
-    let two = both-false (ltb (length out) (placesFor (count list) * 2)) (ltb (length scratch) (count list * 2)) (three .0) in
-    record {
-      good = not-bad list bad b f;
-      places = ltb-false _ _ (two .0);
-      scratch-places = ltb-false _ _ (two .1);
-      mark-places = ltb-false _ _ (three .1);
-    }
+      not-going : on ≡ false → goesOn (count list) tolerance (length out) (length scratch) (length marks) ≡ false
+      not-going t = sym o ∙ t
 
 pub reduce-spec : {M : Type 1} → statement M
 reduce-spec =
@@ -69,14 +38,14 @@ reduce-spec =
     (tie.spec
     (λ c κs. tt)  -- too-many-requires
     (λ c. search too-many)  -- returns
-    (λ c κs. tt)  -- bad-points-requires
-    (λ c. search bad-point)  -- returns-2
-    (λ c κs. tt)  -- bad-tolerance-requires
-    (λ c. search bad-tolerance)  -- returns-3
-    (λ c κs. tt)  -- short-requires
-    (λ c. search no-room)  -- returns-4
-    (λ c κs. search ready)  -- narrow-requires
+    (λ c κs. tt)  -- goes-on-requires
+    (λ c κs. (search not-many, search going))  -- narrow-requires
     (λ c. search needs)  -- same-length
     (λ c. search needs)  -- same-length-2
     (λ c. search needs)  -- same-length-3
-    (λ c. search done))  -- returns-5
+    (λ c. search needs)  -- returns-2
+    (λ c κs. (search not-many, search not-going))  -- whole-requires
+    (λ c. search needs)  -- same-length-4
+    (λ c. search needs)  -- same-length-5
+    (λ c. search needs)  -- same-length-6
+    (λ c. search needs))  -- returns-3

@@ -1,4 +1,4 @@
--- `split::marking::mark_span` meets its contract: its two parts, and the mark between them, give the marks of the whole.
+-- `split::mark_span` meets its contract: its two parts, and the mark between them, give the marks of the whole.
 -- The falling number is the length of the span. Assumes nothing.
 use Prim.Native.Nat.{ℕ, _-_, _<_}
 use native.Mathlib.Omega.{arith}
@@ -10,7 +10,7 @@ use Rattle.split.proofs.marking.mark_span.Reads as mark-span
 use Rattle.split.proofs.marking.mark_span.Kinds as mark-span-kinds
 use Rattle.split.proofs.marking.+mark_span.Lts-mark_span as mark-span-lts
 use Rattle.split.proofs.marking.clear.Reads as clear-reads
-use Rattle.split.proofs.span.farthest.Reads as farthest-reads
+use Rattle.split.proofs.span.split_point.Reads as split-point-reads
 use Rattle.split.proofs.Spans.{nothing-marked, all-dropped, both-marked}
 use Rattle.split.proofs.marking.+mark_span.{statement}
 use Rattle.split.proofs.marking.+mark_span.Tie.{close}
@@ -29,24 +29,24 @@ ruleset laws = (nothing-marked, all-dropped, both-marked, needs)
 
 pub +mark-span-spec : {M : Type 1} → statement M
 +mark-span-spec = close μ-mark-span λ t. mark-span-lts.spec (
-  farthest-reads.Asked,
-  farthest-reads.Learnt,
-  clear-reads.Asked,
-  clear-reads.Learnt,
+  split-point-reads.Asked,
+  split-point-reads.Learnt,
   mark-span-below t,
   mark-span.Post,
+  clear-reads.Asked,
+  clear-reads.Learnt,
 )
     (mark-span-at t)
     mark-span.Post
     (λ c. search laws)  -- add-if1
     (λ c. search laws)  -- returns
-    (λ c κs. search laws)  -- farthest-requires
-    (λ c. search laws)  -- add-clear
-    (λ c κs. search laws)  -- clear-requires
-    (λ c. search laws)  -- same-length
-    (λ c. search laws)  -- returns-2
+    (λ c κs. search laws)  -- split-point-requires
     (λ c κs. search laws)  -- mark-span-requires
     (λ c. search laws)  -- slice-write-marks
     (λ c κs. simp length-set (omega arith))  -- mark-span-requires-2
-    (λ c. omega (arith, simp length-set at (c .before .before .mark-span2 .kept .1 .1 .1 .1 .0)))  -- same-length-2
+    (λ c. omega (arith, simp length-set at (c .before .before .mark-span2 .kept .1 .1 .1 .1 .0)))  -- same-length
+    (λ c. search laws)  -- returns-2
+    (λ c. search laws)  -- add-clear
+    (λ c κs. search laws)  -- clear-requires
+    (λ c. search laws)  -- same-length-2
     (λ c. search laws)  -- returns-3

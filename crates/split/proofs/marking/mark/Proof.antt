@@ -1,4 +1,4 @@
--- `split::marking::mark` meets its contract. Assumes nothing.
+-- `split::mark` meets its contract. Assumes nothing.
 use Prim.Native.Nat.{ℕ, _+_, _-_, _/_, _≤_, _<_}
 use mathlib.Core.List.{List}
 use mathlib.Core.Path.{_≡_, refl}

@@ -1,4 +1,4 @@
--- `split::numbering::number_span` meets its contract: its two parts, and the number between them, give the numbers of the whole.
+-- `split::number_span` meets its contract: its two parts, and the number between them, give the numbers of the whole.
 -- The falling number is the length of the span. Assumes nothing.
 use Prim.Native.Nat.{ℕ, _-_, _<_}
 use native.Mathlib.Omega.{arith}
@@ -12,7 +12,7 @@ use Rattle.split.proofs.numbering.+number_span.Lts-number_span as numbe
 use Rattle.split.proofs.numbering.fill.Reads as fill-reads
 use Rattle.split.proofs.numbering.least.Reads as least-reads
 use Rattle.split.proofs.span.split_point.Reads as split-point-reads
-use Rattle.split.proofs.Spans.{nothing-numbered, all-zero, both-numbered}
+use Rattle.split.proofs.Spans.{nothing-numbered, inside-distance, all-zero, both-numbered}
 use Rattle.split.proofs.numbering.+number_span.{statement}
 use Rattle.split.proofs.numbering.+number_span.Tie.{close}
 
@@ -27,7 +27,7 @@ abbrev number-span-below : ℕ → In 2 number-span-kinds.ps
 number-span-below t =
     and 2 number-span-kinds.ps (falls 2 number-span-kinds.ps _<_ μ-number-span t) number-span.Pre
 
-ruleset laws = (nothing-numbered, all-zero, both-numbered, needs)
+ruleset laws = (nothing-numbered, inside-distance, all-zero, both-numbered, needs)
 
 pub +number-span-spec : {M : Type 1} → statement M
 +number-span-spec = close μ-number-span λ t. number-span-lts.spec (

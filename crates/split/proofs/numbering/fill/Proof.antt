@@ -1,10 +1,10 @@
--- `split::numbering::fill` meets its contract. The loop's invariant: what is left to store gives the whole. Assumes nothing.
+-- `split::fill` meets its contract. The loop's invariant: what is left to store gives the whole. Assumes nothing.
 use Prim.Native.Nat.{_≤_, _-_}
 use mathlib.Core.Path.{_≡_}
 use lib.ListN.{length, replicate}
 use lib.Seq.{sets}
 use borrow.Author.Needs.{needs}
-use Rattle.split.specs.Distance.{zero64}
+use Rattle.spans.specs.Distance.{zero64}
 use Rattle.split.proofs.Stores.{one-stored, all-stored}
 use Rattle.split.proofs.numbering.fill.Statement.{statement}
 use Rattle.split.proofs.numbering.fill.Tie as tie

@@ -1,4 +1,4 @@
--- `split::numbering::number` meets its contract. Assumes nothing.
+-- `split::number` meets its contract. Assumes nothing.
 use Prim.Native.Nat.{_+_, _-_, _/_, _≤_, _<_}
 use mathlib.Core.Bool.{false}
 use mathlib.Core.List.{List}
@@ -9,7 +9,7 @@ use lib.Ieee.{Float, inf, binary64, ofBits, div, fits}
 use lib.ListN.{length, set, length-set}
 use lib.Seq.{sets}
 use Rattle.laws.specs.Finite.{infinity-nonneg}
-use Rattle.split.specs.Distance.{zero64, one64}
+use Rattle.spans.specs.Distance.{zero64, one64}
 use Rattle.split.specs.Marks.{numberedOf}
 use Rattle.split.specs.Spans.{Distance}
 use Rattle.split.specs.Tree.{spanTree, down, numbersOf}

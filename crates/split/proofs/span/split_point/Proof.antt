@@ -1,42 +1,29 @@
--- `split::span::split_point` meets its contract: -1 is below every distance. Assumes nothing.
-use Prim.Native.Nat.{ℕ, suc, _+_, _<_}
-use mathlib.Core.Bool.{true}
+-- `split::split_point` meets its contract: the farthest point of a span lies inside. Assumes nothing.
+use Prim.Native.Nat.{ℕ, suc, _+_, _/_, _<_}
 use mathlib.Core.List.{List}
 use mathlib.Core.Path.{_≡_, _∙_}
 use native.Mathlib.Omega.{arith}
-use lib.IntN.{ℤ, pos}
-use lib.Ieee.{Float, ofBits, neg, lt}
+use lib.IntN.{ℤ}
+use lib.ListN.{length}
 use borrow.Author.Needs.{needs}
-use Rattle.laws.specs.Order.{AtLeastZero}
-use Rattle.split.specs.declared.span.Far.{Far}
-use Rattle.split.specs.Distance.{one64}
-use Rattle.split.specs.Spans.{Found, Split}
-use Rattle.split.specs.Tree.{farthest}
-use Rattle.split.proofs.Tolerances.{under-all}
-use Rattle.split.proofs.Trees.{at-least, split-inside, split-distance, above-found}
+use Rattle.spans.specs.declared.span.Far.{Far}
+use Rattle.spans.specs.Farthest.{farthest, farthestIn}
+use Rattle.spans.proofs.Folds.{found-in}
+use Rattle.split.specs.Spans.{Split}
+use Rattle.split.proofs.Trees.{split-inside}
 use Rattle.split.proofs.span.split_point.Statement.{statement}
 use Rattle.split.proofs.span.split_point.Tie as tie
 
-abbrev minus-one : Float
-minus-one = neg one64
-
-below-all : {x : Float} → AtLeastZero x → lt minus-one x ≡ true
-unfolding ofBits neg
-below-all {x} p = under-all 0 (pos 0) x p
-
-split-at : (points : List ℤ) (first last : ℕ) (far : Far) → first + 1 < last → Found points first last minus-one far → Split points first last far
-split-at points first last far o f =
-    let h : suc first < last = omega arith in
-    let d = split-distance points first last h (f .span) in
-    let e : far ≡ farthest points first last = f .is ∙ above-found points first last minus-one h (below-all (at-least d)) in
-    let i = split-inside points first last h in
-    record { is = e; after-first = rw e (i .0); before-last = f .before-last; distant = rw e d; span = f .span }
-
-ruleset laws = (split-at, needs)
+split-at : (points : List ℤ) (first last : ℕ) (far : Far) → far ≡ farthestIn points first last → first + 1 < last → last < length points / 2 → Split points first last far
+split-at points first last far e o h =
+    let k : suc first < last = omega arith in
+    let i = split-inside points first last k in
+    let f : far ≡ farthest points first last = e ∙ found-in points first last h k in
+    record { is = f; after-first = rw f (i .0); before-last = rw f (i .1) }
 
 pub split-point-spec : {M : Type 1} → statement M
 split-point-spec =
     tie.close
     (tie.spec
-    (λ c κs. search laws)  -- farthest-requires
-    (λ c. search laws))  -- returns
+    (λ c κs. tt)  -- farthest-requires
+    (λ c. search split-at))  -- returns

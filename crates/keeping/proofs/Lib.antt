@@ -1,0 +1,4 @@
+-- Laws, leaves first: `Claims` has what callers cite.
+pub mod Select
+pub mod Marks
+pub mod Claims

@@ -1,0 +1,3 @@
+-- Laws, leaves first: `Claims` has what callers cite.
+pub mod Far
+pub mod Claims

@@ -1,0 +1,4 @@
+-- Laws, leaves first: `Claims` has what callers cite.
+pub mod Distances
+pub mod Folds
+pub mod Claims
