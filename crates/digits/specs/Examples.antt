@@ -3,25 +3,25 @@ use mathlib.Core.List.{[], _∷_}
 use mathlib.Core.Path.{_≡_, refl}
 use lib.IntN.{pos, negsuc}
 use Rattle.digits.specs.Digit.{digitOf}
-use Rattle.digits.specs.Numeral.{allDigits, value, numeralOf, decimalOf, naturalOf, hexOf, patternOf}
-use Rattle.digits.specs.declared.read.Decimal.the-variants as Decimal
+use Rattle.digits.specs.Numeral.{allDigits, value, numeralOf, integerOf, naturalOf, hexOf, patternOf}
+use Rattle.digits.specs.declared.integer.Integer.the-variants as Integer
 use Rattle.digits.specs.declared.read.Hex.the-variants as Hex
 use Rattle.digits.specs.declared.natural.Natural.the-variants as Natural
 
-minus-twelve : decimalOf (45 ∷ 49 ∷ 50 ∷ []) ≡ Decimal.Is (negsuc 11)
-unfolding numeralOf allDigits value digitOf
+minus-twelve : integerOf (45 ∷ 49 ∷ 50 ∷ []) ≡ Integer.Is (negsuc 11)
+unfolding allDigits value digitOf
 minus-twelve = refl
 
-minus-zero : decimalOf (45 ∷ 48 ∷ []) ≡ Decimal.Is (pos 0)
-unfolding numeralOf allDigits value digitOf
+minus-zero : integerOf (45 ∷ 48 ∷ []) ≡ Integer.Is (pos 0)
+unfolding allDigits value digitOf
 minus-zero = refl
 
-only-a-minus : decimalOf (45 ∷ []) ≡ Decimal.Not
-unfolding numeralOf allDigits value digitOf
+only-a-minus : integerOf (45 ∷ []) ≡ Integer.Not
+unfolding allDigits value digitOf
 only-a-minus = refl
 
-no-decimal-digit : decimalOf (65 ∷ []) ≡ Decimal.Not
-unfolding numeralOf allDigits value digitOf
+no-decimal-digit : integerOf (65 ∷ []) ≡ Integer.Not
+unfolding allDigits value digitOf
 no-decimal-digit = refl
 
 zeros-in-front : naturalOf (48 ∷ 48 ∷ 49 ∷ []) ≡ Natural.Is 1

@@ -7,12 +7,12 @@ use lib.ListN.{length, getD, drop}
 use lib.IntN.{pos, negℤ}
 use Rattle.laws.specs.If.{if_then_else_}
 use Rattle.digits.specs.Digit.{digitOf}
+use Rattle.digits.specs.declared.integer.Integer.{Integer}
+use Rattle.digits.specs.declared.integer.Integer.the-variants as Integer
 use Rattle.digits.specs.declared.natural.Natural.{Natural}
 use Rattle.digits.specs.declared.natural.Natural.the-variants as Natural
 use Rattle.digits.specs.declared.read.Number.{Number}
 use Rattle.digits.specs.declared.read.Number.the-variants as Number
-use Rattle.digits.specs.declared.read.Decimal.{Decimal}
-use Rattle.digits.specs.declared.read.Decimal.the-variants as Decimal
 use Rattle.digits.specs.declared.read.Hex.{Hex}
 use Rattle.digits.specs.declared.read.Hex.the-variants as Hex
 
@@ -40,22 +40,23 @@ abbrev pub toHex : Number → Hex
 toHex (Number.Is n) = Hex.Is n
 toHex Number.Not = Hex.Not
 
-abbrev pub fromZero : Number → Decimal
-fromZero (Number.Is n) = Decimal.Is (pos n)
-fromZero Number.Not = Decimal.Not
-
-abbrev pub belowZero : Number → Decimal
-belowZero (Number.Is n) = Decimal.Is (negℤ (pos n))
-belowZero Number.Not = Decimal.Not
-
--- 1 to 18 decimal digits, a minus sign in front of them or not
-abbrev pub decimalOf : List ℕ → Decimal
-decimalOf w = if eqb (getD w 0 0) 45 then belowZero (numeralOf 10 18 (drop 1 w)) else fromZero (numeralOf 10 18 w)
-
 -- decimal digits that say what 64 bits hold, at least one
 abbrev pub naturalOf : List ℕ → Natural
 naturalOf w =
     if ltb 0 (length w) && allDigits 10 w && ltb (value 10 0 w) 18446744073709551616 then Natural.Is (value 10 0 w) else Natural.Not
+
+-- what 32 bits hold of the numbers from zero on, and of those below
+abbrev pub fromZero : Natural → Integer
+fromZero (Natural.Is n) = if ltb n 2147483648 then Integer.Is (pos n) else Integer.Not
+fromZero Natural.Not = Integer.Not
+
+abbrev pub belowZero : Natural → Integer
+belowZero (Natural.Is n) = if ltb n 2147483649 then Integer.Is (negℤ (pos n)) else Integer.Not
+belowZero Natural.Not = Integer.Not
+
+-- the same digits, a minus sign in front of them or not, that say what 32 bits hold
+abbrev pub integerOf : List ℕ → Integer
+integerOf w = if eqb (getD w 0 0) 45 then belowZero (naturalOf (drop 1 w)) else fromZero (naturalOf w)
 
 -- 1 to 16 hexadecimal digits, in either case
 abbrev pub hexOf : List ℕ → Hex

@@ -1,23 +1,17 @@
-// Numbers as text, read from a word and written to a buffer that the caller lends.
+// Numbers as text, read from a word.
 //
-// Nothing fails: what is no number is answered `Not`, and what does not fit is not written. What writes
-// stands in `texts`. No call takes more stack than its return address, 8 bytes (measured on the x86-64
+// Nothing fails: what is no number is answered `Not`. What writes numbers stands in `texts`. No call takes more stack than its return address, 8 bytes (measured on the x86-64
 // code).
 mod glyphs;
+mod integer;
 mod natural;
 mod read;
 
 pub use glyphs::digit;
+pub use integer::Integer;
+pub use integer::read_integer;
 pub use natural::Natural;
 pub use natural::read_natural;
-pub use read::Decimal;
 pub use read::Hex;
-pub use read::read_decimal;
 pub use read::read_hex;
 pub use read::read_pattern;
-pub use texts::decimal_length;
-pub use texts::put_byte;
-pub use texts::put_bytes;
-pub use texts::put_decimal;
-pub use texts::put_hex;
-pub use texts::put_natural;

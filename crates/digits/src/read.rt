@@ -1,13 +1,8 @@
-// A number, read from a word.
+// A number of hexadecimal digits, read from a word.
 ghost use mathlib.Core.Path.{_≡_};
 ghost use Prim.Native.Nat.{_≤_, _<_, _^_};
-ghost use Rattle.digits.specs.Numeral.{Below, numeralOf, fromZero, belowZero, decimalOf, hexOf, patternOf};
+ghost use Rattle.digits.specs.Numeral.{Below, numeralOf, hexOf, patternOf};
 use crate::glyphs::digit;
-
-pub enum Decimal {
-    Is(i64),
-    Not,
-}
 
 pub enum Hex {
     Is(u64),
@@ -18,39 +13,6 @@ pub enum Hex {
 pub enum Number {
     Is(u64),
     Not,
-}
-
-// A number of 1 to 18 decimal digits, a minus sign in front of it or not.
-pub fn read_decimal(word: &[u8]) -> Decimal
-    ensures { λ r. ⌜ r ≡ decimalOf (now (word .entry)) ⌝ }
-{
-    if word.len() == 0 {
-        return Decimal::Not;
-    }
-    if word[0] == b'-' {
-        return below_zero(numeral(&word[1..], 10, 18));
-    }
-    from_zero(numeral(word, 10, 18))
-}
-
-fn from_zero(n: Number) -> Decimal
-    requires { ⌜ Below (10 ^ 18) n ⌝ }
-    ensures { λ r. ⌜ r ≡ fromZero n ⌝ }
-{
-    match n {
-        Number::Is(v) => Decimal::Is(v as i64),
-        Number::Not => Decimal::Not,
-    }
-}
-
-fn below_zero(n: Number) -> Decimal
-    requires { ⌜ Below (10 ^ 18) n ⌝ }
-    ensures { λ r. ⌜ r ≡ belowZero n ⌝ }
-{
-    match n {
-        Number::Is(v) => Decimal::Is(-(v as i64)),
-        Number::Not => Decimal::Not,
-    }
 }
 
 // A number of 1 to 16 hexadecimal digits, in either case.

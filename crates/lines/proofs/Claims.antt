@@ -12,7 +12,7 @@ use Rattle.lines.specs.If.{if-cases}
 use Rattle.lines.specs.Reader.{Outcome, fedReader, inside, newline, lineEnds, inputEnds, count, refill, took, taken}
 use Rattle.lines.specs.declared.reader.Reader.{Reader}
 use Rattle.lines.specs.declared.reader.Taken.{Taken}
-use Rattle.lines.specs.declared.reader.Taken.the-variants.{Line, Long, More, End}
+use Rattle.lines.specs.declared.reader.Taken.the-variants.{Line, More, End}
 use Rattle.lines.proofs.reader.fresh.Reads as fresh
 use Rattle.lines.proofs.reader.fed.Reads as fed
 use Rattle.lines.proofs.reader.take.Reads as take
@@ -34,12 +34,11 @@ take-determined κs a a′ t t′ s s′ p q reader buffer = p ∙ ap₂ taken r
 -- A line that is handed out lies in the buffer, and so does the place to read into.
 abbrev pub Within : Taken → ℕ → Type 0
 Within (Line from to next) n = (from ≤ to) × (to ≤ n)
-Within (Long next) n = Unit {0}
 Within (More at next) n = at ≤ n
 Within End n = Unit {0}
 
 line-within : (h : Reader) (to next n : ℕ) → h .start ≤ to → to ≤ n → Within (lineEnds h to next) n
-line-within h to next n s t = if-cases (λ (k : Taken). Within k n) (h .long) _ _ (λ l. tt) (λ l. (s, t))
+line-within h to next n s t = if-cases (λ (k : Taken). Within k n) (h .long) _ _ (λ l. (omega arith, t)) (λ l. (s, t))
 
 last-within : (h : Reader) (n : ℕ) → h .start ≤ h .end → h .end ≤ n → Within (inputEnds h) n
 last-within h n s e =

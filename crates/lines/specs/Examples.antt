@@ -4,7 +4,7 @@ use mathlib.Core.List.{[], _∷_}
 use mathlib.Core.Path.{_≡_, refl}
 use Rattle.line_words.specs.Split.{upTo}
 use Rattle.lines.specs.Reader.{freshReader, fedReader, refill, taken}
-use Rattle.lines.specs.declared.reader.Taken.the-variants.{Line, Long, More, End}
+use Rattle.lines.specs.declared.reader.Taken.the-variants.{Line, More, End}
 
 -- nothing is held yet: all of the buffer is to be read into
 first-read : taken freshReader (97 ∷ 98 ∷ []) ≡ record { answer = More 0 freshReader; buffer = 97 ∷ 98 ∷ [] }
@@ -42,12 +42,12 @@ no-line : taken (record { start = 3; seen = 3; end = 3; over = true; long = fals
 unfolding upTo refill taken
 no-line = refl
 
--- a full buffer with no newline holds a part of a line that is too long, which is answered once, at its end
+-- a full buffer with no newline holds a part of a line that is too long, which is answered once, at its end, as an empty one
 too-long : taken (fedReader freshReader 2) (97 ∷ 98 ∷ []) .answer ≡ More 0 (record { start = 0; seen = 0; end = 0; over = false; long = true })
 unfolding upTo refill taken
 too-long = refl
 
 its-end : taken (record { start = 0; seen = 0; end = 2; over = false; long = true }) (97 ∷ 10 ∷ []) .answer ≡
-    Long (record { start = 2; seen = 2; end = 2; over = false; long = false })
+    Line 1 1 (record { start = 2; seen = 2; end = 2; over = false; long = false })
 unfolding upTo refill taken
 its-end = refl

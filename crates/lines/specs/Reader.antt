@@ -8,7 +8,7 @@ use Rattle.lines.specs.If.{if_then_else_}
 use Rattle.line_words.specs.Split.{firstFrom}
 use Rattle.lines.specs.declared.reader.Reader.{Reader}
 use Rattle.lines.specs.declared.reader.Taken.{Taken}
-use Rattle.lines.specs.declared.reader.Taken.the-variants.{Line, Long, More, End}
+use Rattle.lines.specs.declared.reader.Taken.the-variants.{Line, More, End}
 
 -- nothing was read
 abbrev pub freshReader : Reader
@@ -40,9 +40,9 @@ inside r n =
 abbrev pub past : Reader → ℕ → Reader
 past r at = record { start = at; seen = at; end = r .end; over = r .over; long = false }
 
--- a line ends at `to`, and the next begins at `next`; one that was being passed over was too long
+-- a line ends at `to`, and the next begins at `next`; of one that was too long, and was being passed over, no bytes are handed out
 abbrev pub lineEnds : Reader → ℕ → ℕ → Taken
-lineEnds r to next = if r .long then Long (past r next) else Line (r .start) to (past r next)
+lineEnds r to next = if r .long then Line to to (past r next) else Line (r .start) to (past r next)
 
 -- the input has ended, and no newline is left: what is left is a line, if anything is
 abbrev pub inputEnds : Reader → Taken

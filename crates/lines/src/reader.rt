@@ -17,14 +17,11 @@ pub struct Reader {
 }
 
 pub enum Taken {
-    // A line, without its newline: the bytes of the buffer between two places.
+    // A line, without its newline: the bytes of the buffer between two places. There are none of a line
+    // that is longer than the buffer.
     Line {
         from: usize,
         to: usize,
-        next: Reader,
-    },
-    // A line that is longer than the buffer.
-    Long {
         next: Reader,
     },
     // The caller is to read into the buffer from a place on, and then to call `fed`.
@@ -106,7 +103,11 @@ fn line(r: Reader, to: usize, next: usize) -> Taken
         long: false,
     };
     if r.long {
-        return Taken::Long { next: past };
+        return Taken::Line {
+            from: to,
+            to: to,
+            next: past,
+        };
     }
     Taken::Line {
         from: r.start,

@@ -1,6 +1,7 @@
 -- Several values as one text.
 use Prim.Native.Nat.{ℕ}
 use mathlib.Core.List.{List, [], _∷_, map, flatten}
+use lib.Ieee.{Float, binary64, toBits}
 use lib.IntN.{ℤ}
 use Rattle.texts.specs.Text.{hexText, decimalText}
 
@@ -24,9 +25,12 @@ module _ {A : Type 0} where
 abbrev pub listText : List ℤ → List ℕ
 listText values = orDash values (listed decimalText values)
 
--- patterns of 16 hexadecimal digits
-abbrev pub patternsText : List ℕ → List ℕ
-patternsText values = orDash values (listed (hexText 16) values)
+-- a double is the 16 hexadecimal digits of its pattern
+abbrev pub doubleText : Float → List ℕ
+doubleText x = hexText 16 (toBits binary64 x)
+
+abbrev pub doublesText : List Float → List ℕ
+doublesText values = orDash values (listed doubleText values)
 
 -- two hexadecimal digits a byte, with nothing between them
 abbrev pub pairsText : List ℕ → List ℕ

@@ -1,4 +1,4 @@
-// A list of decimals, a comma between each two.
+// Decimals: one, and a list with a comma between each two.
 ghost use mathlib.Core.Path.{_≡_};
 ghost use Prim.Native.Nat.{_<_, _≤_};
 ghost use lib.ListN.{length};
@@ -50,17 +50,18 @@ fn put_numbers(values: &[i32], out: &mut [u8], at: usize) -> usize
     requires { ⌜ 0 < length (now values) ⌝ }
     ensures { λ r. ⌜ record { next = r; out = now (out .exit) } ≡ putAll (listed decimalText (now (values .entry))) (record { next = at; out = now (out .entry) }) ⌝ }
 {
-    let mut end = put_number(values[0], out, at);
+    let mut end = put_integer(values[0], out, at);
     let mut i = 1;
     while i < values.len() {
         end = texts::put_byte(b',', out, end);
-        end = put_number(values[i], out, end);
+        end = put_integer(values[i], out, end);
         i += 1;
     }
     end
 }
 
-fn put_number(n: i32, out: &mut [u8], at: usize) -> usize
+// Puts one of them.
+pub fn put_integer(n: i32, out: &mut [u8], at: usize) -> usize
     ensures { λ r. ⌜ record { next = r; out = now (out .exit) } ≡ put (decimalText n) (now (out .entry)) at ⌝ }
 {
     texts::put_decimal(n as i64, out, at)

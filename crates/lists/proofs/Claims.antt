@@ -6,18 +6,20 @@ use mathlib.Core.Option.{Option, some, none}
 use mathlib.Core.Path.{_≡_, sym, ap, ap₂, _∙_}
 use native.Mathlib.Omega.{arith}
 use lib.Dec.{leb}
+use lib.Ieee.{Float}
 use lib.IntN.{ℤ}
 use lib.ListN.{length}
 use borrow.Author.Tests.{leb-true}
 use denote.Ref.{now}
 use Rattle.laws.specs.If.{if-cases}
-use Rattle.lists.specs.Lists.{Outcome, isDash, listOf, readInto, number, pattern, bytesOf}
+use Rattle.lists.specs.Lists.{Outcome, isDash, listOf, readInto, integer, double, bytesOf, pairsOf}
 use Rattle.lists.specs.declared.Read.{Read}
 use Rattle.lists.specs.declared.Read.the-variants.{Is}
 use Rattle.lists.proofs.is_dash.Reads as is_dash
-use Rattle.lists.proofs.numbers.read_list.Reads as read_list
-use Rattle.lists.proofs.patterns.read_patterns.Reads as read_patterns
+use Rattle.lists.proofs.integers.read_integers.Reads as read_integers
+use Rattle.lists.proofs.doubles.read_doubles.Reads as read_doubles
 use Rattle.lists.proofs.bytes.read_bytes.Reads as read_bytes
+use Rattle.lists.proofs.bytes.read_pairs.Reads as read_pairs
 
 -- No contract leaves a choice: of words and buffers of the same contents it allows one answer, and one last content of the
 -- buffer. `Post` is the contract itself, as Rattle reads it off the source, at arguments `a`, a result `r` and parameters at exit
@@ -26,23 +28,31 @@ pub is-dash-determined : (κs : _) (a a′ : _) (r r′ : Bool) (s s′ : _) →
     now (a .0) ≡ now (a′ .0) → r ≡ r′
 is-dash-determined κs a a′ r r′ s s′ p q word = p ∙ ap isDash word ∙ sym q
 
-pub read-list-determined : (κs : _) (a a′ : _) (r r′ : Read) (s s′ : _) → read_list.Post κs a r s → read_list.Post κs a′ r′ s′ →
-    now (a .0) ≡ now (a′ .0) → now (a .1 .0) ≡ now (a′ .1 .0) →
-    _≡_ {A = Outcome ℤ} (record { answer = r; to = now (s .1 .0) }) (record { answer = r′; to = now (s′ .1 .0) })
-read-list-determined κs a a′ r r′ s s′ p q word to =
-    p ∙ ap₂ (λ (w : List ℕ) (t : List ℤ). readInto (listOf number w) t) word to ∙ sym q
+pub read-integers-determined : (κs : _) (a a′ : _) (r r′ : Read) (s s′ : _) → read_integers.Post κs a r s → read_integers.Post κs a′ r′ s′ →
+    now (a .0) ≡ now (a′ .0) → a .1 .0 ≡ a′ .1 .0 → now (a .1 .1 .0) ≡ now (a′ .1 .1 .0) →
+    _≡_ {A = Outcome ℤ} (record { answer = r; to = now (s .1 .1 .0) }) (record { answer = r′; to = now (s′ .1 .1 .0) })
+read-integers-determined κs a a′ r r′ s s′ p q word sep to =
+    p ∙ ap₂ (λ (b : ℕ) (w : List ℕ). readInto (listOf integer b w) (now (a .1 .1 .0))) sep word ∙
+    ap (readInto (listOf integer (a′ .1 .0) (now (a′ .0)))) to ∙ sym q
 
-pub read-patterns-determined : (κs : _) (a a′ : _) (r r′ : Read) (s s′ : _) → read_patterns.Post κs a r s →
-    read_patterns.Post κs a′ r′ s′ → now (a .0) ≡ now (a′ .0) → now (a .1 .0) ≡ now (a′ .1 .0) →
-    _≡_ {A = Outcome ℕ} (record { answer = r; to = now (s .1 .0) }) (record { answer = r′; to = now (s′ .1 .0) })
-read-patterns-determined κs a a′ r r′ s s′ p q word to =
-    p ∙ ap₂ (λ (w : List ℕ) (t : List ℕ). readInto (listOf pattern w) t) word to ∙ sym q
+pub read-doubles-determined : (κs : _) (a a′ : _) (r r′ : Read) (s s′ : _) → read_doubles.Post κs a r s → read_doubles.Post κs a′ r′ s′ →
+    now (a .0) ≡ now (a′ .0) → a .1 .0 ≡ a′ .1 .0 → now (a .1 .1 .0) ≡ now (a′ .1 .1 .0) →
+    _≡_ {A = Outcome Float} (record { answer = r; to = now (s .1 .1 .0) }) (record { answer = r′; to = now (s′ .1 .1 .0) })
+read-doubles-determined κs a a′ r r′ s s′ p q word sep to =
+    p ∙ ap₂ (λ (b : ℕ) (w : List ℕ). readInto (listOf double b w) (now (a .1 .1 .0))) sep word ∙
+    ap (readInto (listOf double (a′ .1 .0) (now (a′ .0)))) to ∙ sym q
 
 pub read-bytes-determined : (κs : _) (a a′ : _) (r r′ : Read) (s s′ : _) → read_bytes.Post κs a r s → read_bytes.Post κs a′ r′ s′ →
     now (a .0) ≡ now (a′ .0) → now (a .1 .0) ≡ now (a′ .1 .0) →
     _≡_ {A = Outcome ℕ} (record { answer = r; to = now (s .1 .0) }) (record { answer = r′; to = now (s′ .1 .0) })
 read-bytes-determined κs a a′ r r′ s s′ p q word to =
     p ∙ ap₂ (λ (w : List ℕ) (t : List ℕ). readInto (bytesOf w) t) word to ∙ sym q
+
+pub read-pairs-determined : (κs : _) (a a′ : _) (r r′ : Read) (s s′ : _) → read_pairs.Post κs a r s → read_pairs.Post κs a′ r′ s′ →
+    now (a .0) ≡ now (a′ .0) → now (a .1 .0) ≡ now (a′ .1 .0) →
+    _≡_ {A = Outcome ℕ} (record { answer = r; to = now (s .1 .0) }) (record { answer = r′; to = now (s′ .1 .0) })
+read-pairs-determined κs a a′ r r′ s s′ p q word to =
+    p ∙ ap₂ (λ (w : List ℕ) (t : List ℕ). readInto (pairsOf w) t) word to ∙ sym q
 
 -- What is read fits the buffer.
 fits : {A : Type 0} (xs : Option (List A)) (to : List A) (n : ℕ) → readInto xs to .answer ≡ Is n → n ≤ length to

@@ -18,23 +18,23 @@ use Rattle.lists.specs.declared.Read.{Read}
 use Rattle.lists.specs.declared.Read.the-variants as Read
 
 -- the item that ends at `end` is the last one, or others follow it; one that reads as nothing fails all
-module _ {A : Type 0} (f : List ℕ → Option A) (w : List ℕ) (at end : ℕ) (found : end ≡ firstFrom 44 at w) (inside : at ≤ length w) where
-  pub last-item : (x : A) → f (take (end - at) (drop at w)) ≡ some x → end ≡ length w → itemsOf f (drop at w) ≡ some (x ∷ [])
+module _ {A : Type 0} (f : List ℕ → Option A) (sep : ℕ) (w : List ℕ) (at end : ℕ) (found : end ≡ firstFrom sep at w) (inside : at ≤ length w) where
+  pub last-item : (x : A) → f (take (end - at) (drop at w)) ≡ some x → end ≡ length w → itemsOf f sep (drop at w) ≡ some (x ∷ [])
   unfolding allOf
-  last-item x e h = rw (part-last 44 at end w found inside h, e)
+  last-item x e h = rw (part-last sep at end w found inside h, e)
 
   pub more-items : (x : A) → f (take (end - at) (drop at w)) ≡ some x → (end ≡ length w → ⊥) →
-      itemsOf f (drop at w) ≡ prepend (some x) (itemsOf f (drop (end + 1) w))
+      itemsOf f sep (drop at w) ≡ prepend (some x) (itemsOf f sep (drop (end + 1) w))
   unfolding allOf
-  more-items x e h = rw (part-more 44 at end w found inside h, e)
+  more-items x e h = rw (part-more sep at end w found inside h, e)
 
-  pub no-item : f (take (end - at) (drop at w)) ≡ none → itemsOf f (drop at w) ≡ none
+  pub no-item : f (take (end - at) (drop at w)) ≡ none → itemsOf f sep (drop at w) ≡ none
   unfolding allOf
   no-item e = by-test (eqb end (length w)) refl
     where
-      by-test : (t : Bool) → eqb end (length w) ≡ t → itemsOf f (drop at w) ≡ none
-      by-test true h = rw (part-last 44 at end w found inside (eqb-true end (length w) h), e)
-      by-test false h = rw (part-more 44 at end w found inside (eqb-false end (length w) h), e)
+      by-test : (t : Bool) → eqb end (length w) ≡ t → itemsOf f sep (drop at w) ≡ none
+      by-test true h = rw (part-last sep at end w found inside (eqb-true end (length w) h), e)
+      by-test false h = rw (part-more sep at end w found inside (eqb-false end (length w) h), e)
 
 -- `n` more
 abbrev pub plus : ℕ → Read → Read
@@ -107,24 +107,24 @@ store-all {A} all left to₀ to n inv e =
     sym (inv ∙ ap (λ (l : Option (List A)). take n to ++ over l (drop n to)) e ∙ take-append-drop n to)
 
 -- The two together: a turn of a loop over the items of a list, at the item from `at` to `end`.
-module _ {A : Type 0} (f : List ℕ → Option A) (w : List ℕ) (n at end : ℕ) (found : end ≡ firstFrom 44 at w) (inside : at ≤ length w) where
-  module _ (inv : countOf (itemsOf f w) ≡ plus n (countOf (itemsOf f (drop at w)))) where
+module _ {A : Type 0} (f : List ℕ → Option A) (sep : ℕ) (w : List ℕ) (n at end : ℕ) (found : end ≡ firstFrom sep at w) (inside : at ≤ length w) where
+  module _ (inv : countOf (itemsOf f sep w) ≡ plus n (countOf (itemsOf f sep (drop at w)))) where
     pub counted-more : (x : A) → f (take (end - at) (drop at w)) ≡ some x → (end ≡ length w → ⊥) →
-        countOf (itemsOf f w) ≡ plus (n + 1) (countOf (itemsOf f (drop (end + 1) w)))
+        countOf (itemsOf f sep w) ≡ plus (n + 1) (countOf (itemsOf f sep (drop (end + 1) w)))
     counted-more x e h =
-        count-more (itemsOf f w) (itemsOf f (drop at w)) (itemsOf f (drop (end + 1) w)) n x inv (more-items f w at end found inside x e h)
+        count-more (itemsOf f sep w) (itemsOf f sep (drop at w)) (itemsOf f sep (drop (end + 1) w)) n x inv (more-items f sep w at end found inside x e h)
 
-    pub counted-last : (x : A) → f (take (end - at) (drop at w)) ≡ some x → end ≡ length w → Read.Is (n + 1) ≡ countOf (itemsOf f w)
+    pub counted-last : (x : A) → f (take (end - at) (drop at w)) ≡ some x → end ≡ length w → Read.Is (n + 1) ≡ countOf (itemsOf f sep w)
     counted-last x e h =
-        count-last (itemsOf f w) (itemsOf f (drop at w)) none n x inv (last-item f w at end found inside x e h)
+        count-last (itemsOf f sep w) (itemsOf f sep (drop at w)) none n x inv (last-item f sep w at end found inside x e h)
 
-    pub counted-none : f (take (end - at) (drop at w)) ≡ none → Read.Not ≡ countOf (itemsOf f w)
-    counted-none e = count-none (itemsOf f w) (itemsOf f (drop at w)) n inv (no-item f w at end found inside e)
+    pub counted-none : f (take (end - at) (drop at w)) ≡ none → Read.Not ≡ countOf (itemsOf f sep w)
+    counted-none e = count-none (itemsOf f sep w) (itemsOf f sep (drop at w)) n inv (no-item f sep w at end found inside e)
 
-  module _ (to₀ to : List A) (inv : over (itemsOf f w) to₀ ≡ take n to ++ over (itemsOf f (drop at w)) (drop n to))
-      (room : Room (itemsOf f (drop at w)) n (length to)) where
+  module _ (to₀ to : List A) (inv : over (itemsOf f sep w) to₀ ≡ take n to ++ over (itemsOf f sep (drop at w)) (drop n to))
+      (room : Room (itemsOf f sep (drop at w)) n (length to)) where
     pub stored-none : {X : Type 0} → f (take (end - at) (drop at w)) ≡ none → X
-    stored-none e = room-some (itemsOf f (drop at w)) none n (length to) room (no-item f w at end found inside e)
+    stored-none e = room-some (itemsOf f sep (drop at w)) none n (length to) room (no-item f sep w at end found inside e)
 
     module _ (x : A) (is : f (take (end - at) (drop at w)) ≡ some x) where
       pub has-place : n < length to
@@ -132,26 +132,26 @@ module _ {A : Type 0} (f : List ℕ → Option A) (w : List ℕ) (n at end : ℕ
         where
           by-test : (t : Bool) → eqb end (length w) ≡ t → n < length to
           by-test true h =
-              room-last (itemsOf f (drop at w)) none n (length to) room x (last-item f w at end found inside x is (eqb-true end (length w) h))
+              room-last (itemsOf f sep (drop at w)) none n (length to) room x (last-item f sep w at end found inside x is (eqb-true end (length w) h))
           by-test false h =
-              room-here (itemsOf f (drop at w)) (itemsOf f (drop (end + 1) w)) n (length to) room x
-              (more-items f w at end found inside x is (eqb-false end (length w) h))
+              room-here (itemsOf f sep (drop at w)) (itemsOf f sep (drop (end + 1) w)) n (length to) room x
+              (more-items f sep w at end found inside x is (eqb-false end (length w) h))
 
       pub stored-more : (end ≡ length w → ⊥) →
-          over (itemsOf f w) to₀ ≡ take (n + 1) (set to n x) ++ over (itemsOf f (drop (end + 1) w)) (drop (n + 1) (set to n x))
+          over (itemsOf f sep w) to₀ ≡ take (n + 1) (set to n x) ++ over (itemsOf f sep (drop (end + 1) w)) (drop (n + 1) (set to n x))
       stored-more h =
-          store-more (itemsOf f w) (itemsOf f (drop at w)) (itemsOf f (drop (end + 1) w)) to₀ to n x inv room
-          (more-items f w at end found inside x is h)
+          store-more (itemsOf f sep w) (itemsOf f sep (drop at w)) (itemsOf f sep (drop (end + 1) w)) to₀ to n x inv room
+          (more-items f sep w at end found inside x is h)
 
-      pub room-more : (end ≡ length w → ⊥) → Room (itemsOf f (drop (end + 1) w)) (n + 1) (length (set to n x))
+      pub room-more : (end ≡ length w → ⊥) → Room (itemsOf f sep (drop (end + 1) w)) (n + 1) (length (set to n x))
       room-more h =
           rw length-set
-          (room-next (itemsOf f (drop at w)) (itemsOf f (drop (end + 1) w)) n (length to) room x
-          (more-items f w at end found inside x is h))
+          (room-next (itemsOf f sep (drop at w)) (itemsOf f sep (drop (end + 1) w)) n (length to) room x
+          (more-items f sep w at end found inside x is h))
 
-      pub stored-last : end ≡ length w → set to n x ≡ over (itemsOf f w) to₀
+      pub stored-last : end ≡ length w → set to n x ≡ over (itemsOf f sep w) to₀
       stored-last h =
-          store-last (itemsOf f w) (itemsOf f (drop at w)) none to₀ to n x inv room (last-item f w at end found inside x is h)
+          store-last (itemsOf f sep w) (itemsOf f sep (drop at w)) none to₀ to n x inv room (last-item f sep w at end found inside x is h)
 
 -- nothing is counted yet
 pub plus-zero : (r : Read) → r ≡ plus 0 r
@@ -181,9 +181,9 @@ module _ {A : Type 0} (to : List A) (r : Read) where
     read-room (some xs) c h = let e : n ≡ length xs = cc in omega arith
 
 -- a list is `-`, or its items
-module _ {A : Type 0} (f : List ℕ → Option A) (w : List ℕ) (to : List A) (dash : Bool) (says : dash ≡ isDash w) where
-  pub no-values : dash ≡ true → record { answer = Read.Is 0; to = to } ≡ readInto (listOf f w) to
+module _ {A : Type 0} (f : List ℕ → Option A) (sep : ℕ) (w : List ℕ) (to : List A) (dash : Bool) (says : dash ≡ isDash w) where
+  pub no-values : dash ≡ true → record { answer = Read.Is 0; to = to } ≡ readInto (listOf f sep w) to
   no-values e = rw (← says, e, le-leb 0 (length to) zero-le)
 
-  pub some-values : (o : Outcome A) → dash ≡ false → o ≡ readInto (itemsOf f w) to → o ≡ readInto (listOf f w) to
+  pub some-values : (o : Outcome A) → dash ≡ false → o ≡ readInto (itemsOf f sep w) to → o ≡ readInto (listOf f sep w) to
   some-values o e h = rw (← says, e) h

@@ -6,23 +6,23 @@ use mathlib.Core.Path.{_≡_, refl}
 use lib.IntN.{pos, negsuc}
 use Rattle.line_words.specs.Split.{split}
 use Rattle.digits.specs.Digit.{digitOf}
-use Rattle.digits.specs.Numeral.{allDigits, value, numeralOf}
-use Rattle.lists.specs.Lists.{allOf, listOf, number, pairOf, bytesOf, readInto}
+use Rattle.digits.specs.Numeral.{allDigits, value}
+use Rattle.lists.specs.Lists.{allOf, listOf, integer, pairOf, bytesOf, readInto}
 use Rattle.lists.specs.declared.Read.the-variants.{Is, Not}
 
-two-numbers : listOf number (49 ∷ 44 ∷ 45 ∷ 49 ∷ []) ≡ some (pos 1 ∷ negsuc 0 ∷ [])
-unfolding split allOf numeralOf allDigits value digitOf
+two-numbers : listOf integer 44 (49 ∷ 44 ∷ 45 ∷ 49 ∷ []) ≡ some (pos 1 ∷ negsuc 0 ∷ [])
+unfolding split allOf allDigits value digitOf
 two-numbers = refl
 
-no-numbers : listOf number (45 ∷ []) ≡ some []
+no-numbers : listOf integer 44 (45 ∷ []) ≡ some []
 no-numbers = refl
 
-an-empty-word : listOf number [] ≡ none
-unfolding split allOf numeralOf allDigits value digitOf
+an-empty-word : listOf integer 44 [] ≡ none
+unfolding split allOf allDigits value digitOf
 an-empty-word = refl
 
-a-comma-too-many : listOf number (49 ∷ 44 ∷ []) ≡ none
-unfolding split allOf numeralOf allDigits value digitOf
+a-comma-too-many : listOf integer 44 (49 ∷ 44 ∷ []) ≡ none
+unfolding split allOf allDigits value digitOf
 a-comma-too-many = refl
 
 a-byte : bytesOf (49 ∷ 97 ∷ []) ≡ some (26 ∷ [])

@@ -4,19 +4,17 @@ use mathlib.Core.Bool.{Bool, _&&_}
 use mathlib.Core.List.{List, [], _∷_, _++_}
 use mathlib.Core.Option.{Option, some, none}
 use lib.Dec.{ltb, leb, eqb}
+use lib.Ieee.{Float, binary64, ofBits}
 use lib.IntN.{ℤ}
 use lib.ListN.{length, getD, drop}
-use lib.Signed.{mag}
 use Rattle.laws.specs.If.{if_then_else_}
 use Rattle.line_words.specs.Split.{split}
 use Rattle.digits.specs.Digit.{digitOf}
-use Rattle.digits.specs.Numeral.{decimalOf, patternOf}
-use Rattle.digits.specs.declared.read.Decimal.{Decimal}
-use Rattle.digits.specs.declared.read.Decimal.the-variants as Decimal
+use Rattle.digits.specs.Numeral.{integerOf, patternOf}
+use Rattle.digits.specs.declared.integer.Integer.{Integer}
+use Rattle.digits.specs.declared.integer.Integer.the-variants as Integer
 use Rattle.digits.specs.declared.read.Hex.{Hex}
 use Rattle.digits.specs.declared.read.Hex.the-variants as Hex
-use Rattle.lists.specs.declared.numbers.Small.{Small}
-use Rattle.lists.specs.declared.numbers.Small.the-variants as Small
 use Rattle.lists.specs.declared.Read.{Read}
 use Rattle.lists.specs.declared.Read.the-variants as Read
 
@@ -41,13 +39,13 @@ module _ {A : Type 0} where
   allOf f [] = some []
   allOf f (p ∷ ps) = prepend (f p) (allOf f ps)
 
-  -- values with a comma between any two
-  abbrev pub itemsOf : (List ℕ → Option A) → List ℕ → Option (List A)
-  itemsOf f w = allOf f (split 44 w)
+  -- values with a `sep` between any two
+  abbrev pub itemsOf : (List ℕ → Option A) → ℕ → List ℕ → Option (List A)
+  itemsOf f sep w = allOf f (split sep w)
 
   -- the same, or `-` for none at all
-  abbrev pub listOf : (List ℕ → Option A) → List ℕ → Option (List A)
-  listOf f w = if isDash w then some [] else itemsOf f w
+  abbrev pub listOf : (List ℕ → Option A) → ℕ → List ℕ → Option (List A)
+  listOf f sep w = if isDash w then some [] else itemsOf f sep w
 
   -- how many were read
   abbrev pub countOf : Option (List A) → Read
@@ -71,28 +69,21 @@ module _ {A : Type 0} where
       if leb (length xs) (length to) then record { answer = Read.Is (length xs); to = xs ++ drop (length xs) to }
       else record { answer = Read.Not; to = to }
 
--- a decimal that 32 bits hold
-abbrev pub toSmall : Decimal → Small
-toSmall (Decimal.Is z) = if ltb (mag z) 2147483648 then Small.Is z else Small.Not
-toSmall Decimal.Not = Small.Not
-
-abbrev pub smallOf : List ℕ → Small
-smallOf w = toSmall (decimalOf w)
-
-abbrev pub smallSaid : Small → Option ℤ
-smallSaid (Small.Is z) = some z
-smallSaid Small.Not = none
-
-abbrev pub hexSaid : Hex → Option ℕ
-hexSaid (Hex.Is n) = some n
-hexSaid Hex.Not = none
-
 -- the values of a list
-abbrev pub number : List ℕ → Option ℤ
-number w = smallSaid (smallOf w)
+abbrev pub integerSaid : Integer → Option ℤ
+integerSaid (Integer.Is z) = some z
+integerSaid Integer.Not = none
 
-abbrev pub pattern : List ℕ → Option ℕ
-pattern w = hexSaid (patternOf w)
+abbrev pub integer : List ℕ → Option ℤ
+integer w = integerSaid (integerOf w)
+
+-- a double is the 16 hexadecimal digits of its pattern
+abbrev pub doubleSaid : Hex → Option Float
+doubleSaid (Hex.Is n) = some (ofBits binary64 n)
+doubleSaid Hex.Not = none
+
+abbrev pub double : List ℕ → Option Float
+double w = doubleSaid (patternOf w)
 
 -- the byte that two hexadecimal digits say; 256 where one of them is none
 unfoldable pub pairOf : ℕ → ℕ → ℕ
@@ -103,3 +94,7 @@ unfoldable pub bytesOf : List ℕ → Option (List ℕ)
 bytesOf [] = some []
 bytesOf (x ∷ []) = none
 bytesOf (x ∷ y ∷ rest) = if ltb (pairOf x y) 256 then prepend (some (pairOf x y)) (bytesOf rest) else none
+
+-- the same, or `-` for none at all
+abbrev pub pairsOf : List ℕ → Option (List ℕ)
+pairsOf w = if isDash w then some [] else if eqb (length w) 0 then none else bytesOf w

@@ -2,8 +2,9 @@
 ghost use mathlib.Core.Path.{_≡_};
 ghost use Prim.Native.Nat.{_+_, _≤_};
 ghost use lib.ListN.{length, getD};
-ghost use Rattle.lists.specs.Lists.{pairOf, bytesOf, countOf, over, Room, readInto};
+ghost use Rattle.lists.specs.Lists.{pairOf, bytesOf, pairsOf, countOf, over, Room, readInto};
 use crate::Read;
+use crate::is_dash;
 use digits::digit;
 
 // Reads the bytes of a word to the start of `to`, and answers how many there are. Where the digits are
@@ -19,6 +20,19 @@ pub fn read_bytes(word: &[u8], to: &mut [u8]) -> Read
     }
     write_bytes(word, to);
     Read::Is(n)
+}
+
+// The same, where `-` is the word of no bytes, and an empty one is none.
+pub fn read_pairs(word: &[u8], to: &mut [u8]) -> Read
+    ensures { λ r. ⌜ record { answer = r; to = now (to .exit) } ≡ readInto (pairsOf (now (word .entry))) (now (to .entry)) ⌝ }
+{
+    if is_dash(word) {
+        return Read::Is(0);
+    }
+    if word.len() == 0 {
+        return Read::Not;
+    }
+    read_bytes(word, to)
 }
 
 fn count_bytes(word: &[u8]) -> Read

@@ -1,20 +1,17 @@
-// Several values in one word, read to the start of a buffer that the caller lends, and written to a
-// place of one: all of them, or none.
+// Several values in one text, read to the start of a buffer that the caller lends: all of them, or none.
 //
 // Nothing fails: where a value is none, or there is no room for all, the answer is `Not`, and nothing
-// is written. What writes stands in `list_texts`. The deepest call, of `put_list`, takes 56 bytes of
-// stack with its return address; of those that read, 24 (measured on the x86-64 code).
+// is written. What writes values stands in `list_texts`. The deepest call takes 24 bytes of stack with
+// its return address (measured on the x86-64 code).
 mod bytes;
+mod doubles;
+mod integers;
 mod items;
-mod numbers;
-mod patterns;
 
 pub use bytes::read_bytes;
-pub use list_texts::put_list;
-pub use list_texts::put_pairs;
-pub use list_texts::put_patterns;
-pub use numbers::read_list;
-pub use patterns::read_patterns;
+pub use bytes::read_pairs;
+pub use doubles::read_doubles;
+pub use integers::read_integers;
 ghost use mathlib.Core.Path.{_≡_};
 ghost use Rattle.lists.specs.Lists.{isDash};
 

@@ -6,6 +6,9 @@ use libc::STDIN_FILENO;
 use libc::STDOUT_FILENO;
 use lines::Taken;
 
+// Once the output is half full it is written out.
+const FULL: usize = 131072;
+
 fn main() {
     let mut input = [0u8; 262144];
     let mut output = [0u8; 262144];
@@ -23,40 +26,34 @@ fn answer_all(input: &mut [u8], output: &mut [u8]) {
         match lines::take(reader, input) {
             Taken::Line { from, to, next } => {
                 reader = next;
-                at = collect(&input[from..to], output, at);
-            }
-            Taken::Long { next } => {
-                reader = next;
-                at = collect(&input[0..0], output, at);
+                let end = answer(&input[from..to], output, at);
+                at = case_texts::end_line(output, at, end);
+                at = flush(output, at, FULL);
             }
             Taken::More { at: place, next } => {
                 reader = lines::fed(next, read(&mut input[place..]));
             }
             Taken::End => {
-                write(output, at);
+                flush(output, at, 0);
                 return;
             }
         }
     }
 }
 
-// Puts the answer to a line at a place of the output. Once the output is half full it is written out.
-fn collect(line: &[u8], output: &mut [u8], at: usize) -> usize {
-    let next = answer(line, output, at);
-    if next < output.len() / 2 {
-        return next;
-    }
-    write(output, next);
-    0
-}
-
+// Reads more of the input, and answers how many bytes came.
 fn read(part: &mut [u8]) -> usize {
     let got = libc::read(STDIN_FILENO, part);
     io::count(got, part)
 }
 
-fn write(output: &[u8], to: usize) {
-    if to <= output.len() {
-        io::write_all(STDOUT_FILENO, &output[0..to]);
+// Writes the output up to a place, where that is `least` or more, and answers where the next answer goes.
+fn flush(output: &[u8], at: usize, least: usize) -> usize {
+    if at < least {
+        return at;
     }
+    if at <= output.len() {
+        io::write_all(STDOUT_FILENO, &output[0..at]);
+    }
+    0
 }

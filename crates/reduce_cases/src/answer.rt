@@ -2,57 +2,50 @@
 // `reduce TOL LIST ROOM SCRATCHROOM MARKROOM`, `numbers LIST ROOM` or `zoom SQTOL LIST NUMBERS ROOM`.
 // The answer is the number of the refusal or 0, the count, and each lent buffer, whole. Anything else
 // is a bad line.
-use crate::given::MOST;
+use crate::lent::douglas_peucker;
+use crate::lent::radial;
+use crate::lent::reduce;
 use crate::numbered::numbers;
-use crate::peucker::douglas_peucker;
-use crate::put::bad;
-use crate::radial::radial;
-use crate::reduced::reduce;
-use crate::zoomed::zoom;
+use crate::numbered::zoom;
+use digits::Hex;
 use lists::Read;
+
+// The longest list that is read.
+pub const MOST: usize = 16384;
 
 // Puts the answer to the case of a line at a place of `out`, and answers the place behind it.
 pub fn answer(line: &[u8], out: &mut [u8], at: usize) -> usize {
     let mut list = [0i32; MOST];
-    let Read::Is(n) = lists::read_list(lines::word(line, list_place(line)), &mut list) else {
-        return bad(out, at);
+    if lines::words(line) == 3 && check::same(lines::word(line, 0), b"numbers") {
+        let Read::Is(n) = lists::read_integers(lines::word(line, 1), b',', &mut list) else {
+            return at;
+        };
+        return numbers(line, &list[0..n], out, at);
+    }
+    let Hex::Is(tolerance) = digits::read_pattern(lines::word(line, 1)) else {
+        return at;
     };
-    call(line, &list[0..n], out, at)
+    let Read::Is(n) = lists::read_integers(lines::word(line, 2), b',', &mut list) else {
+        return at;
+    };
+    reduced(line, sqrt::from_bits(tolerance), &list[0..n], out, at)
 }
 
-// Which word is the list of points.
-fn list_place(line: &[u8]) -> usize {
-    if check::same(lines::word(line, 0), b"numbers") {
-        return 1;
-    }
-    2
-}
-
-fn call(line: &[u8], points: &[i32], out: &mut [u8], at: usize) -> usize {
+// The same with the tolerance and the points, which all calls but `numbers` have.
+fn reduced(line: &[u8], tolerance: f64, points: &[i32], out: &mut [u8], at: usize) -> usize {
     let words = lines::words(line);
-    let name = lines::word(line, 0);
-    if words == 3 {
-        if check::same(name, b"numbers") {
-            return numbers(line, points, out, at);
-        }
+    let call = lines::word(line, 0);
+    if words == 4 && check::same(call, b"radial") {
+        return radial(line, tolerance, points, out, at);
     }
-    if words == 4 {
-        if check::same(name, b"radial") {
-            return radial(line, points, out, at);
-        }
+    if words == 5 && check::same(call, b"douglas_peucker") {
+        return douglas_peucker(line, tolerance, points, out, at);
     }
-    if words == 5 {
-        if check::same(name, b"douglas_peucker") {
-            return douglas_peucker(line, points, out, at);
-        }
-        if check::same(name, b"zoom") {
-            return zoom(line, points, out, at);
-        }
+    if words == 5 && check::same(call, b"zoom") {
+        return zoom(line, tolerance, points, out, at);
     }
-    if words == 6 {
-        if check::same(name, b"reduce") {
-            return reduce(line, points, out, at);
-        }
+    if words == 6 && check::same(call, b"reduce") {
+        return reduce(line, tolerance, points, out, at);
     }
-    bad(out, at)
+    at
 }

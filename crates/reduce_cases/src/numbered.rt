@@ -1,45 +1,37 @@
-// `numbers LIST ROOM`.
-use crate::given;
-use crate::put;
+// The calls on the numbers of points: each lends the room that the case asks for, and puts the answer and all that
+// the lent buffer then holds.
+use crate::answer::MOST;
+use crate::lent::ROOM;
+use crate::lent::VALUE;
+use lists::Read;
+
+// What places of a lent buffer hold before the call.
+const NUMBER: f64 = -99999.0;
 
 pub fn numbers(line: &[u8], points: &[i32], out: &mut [u8], at: usize) -> usize {
-    let room = given::room(lines::word(line, 2));
-    if given::ROOM < room {
-        return put::bad(out, at);
+    let room = case_words::read_room(lines::word(line, 2));
+    if ROOM < room {
+        return at;
     }
-    let mut values = [given::NUMBER; given::ROOM];
-    let mut patterns = [0u64; given::ROOM];
-    number(
-        points,
-        &mut values[0..room],
-        &mut patterns[0..room],
-        out,
-        at,
-    )
-}
-
-fn number(
-    points: &[i32],
-    values: &mut [f64],
-    patterns: &mut [u64],
-    out: &mut [u8],
-    at: usize,
-) -> usize {
+    let mut places = [NUMBER; ROOM];
+    let values = &mut places[0..room];
     let answer = reduce::numbers(points, values);
-    to_patterns(values, patterns);
-    let from = put::verdict(answer, out, at);
-    let end = lists::put_patterns(patterns, out, from);
-    digits::put_byte(b'\n', out, end)
+    let end = case_texts::put_answer(answer, out, at);
+    case_texts::put_doubles(values, out, end)
 }
 
-// Puts the pattern of each double that has a place in `to` there.
-fn to_patterns(numbers: &[f64], to: &mut [u64]) {
-    let mut i = 0;
-    while i < numbers.len() {
-        if to.len() <= i {
-            return;
-        }
-        to[i] = sqrt::to_bits(numbers[i]);
-        i += 1;
+pub fn zoom(line: &[u8], tolerance: f64, points: &[i32], out: &mut [u8], at: usize) -> usize {
+    let room = case_words::read_room(lines::word(line, 4));
+    if ROOM < room {
+        return at;
     }
+    let mut numbers = [0.0f64; MOST];
+    let Read::Is(n) = lists::read_doubles(lines::word(line, 3), b',', &mut numbers) else {
+        return at;
+    };
+    let mut places = [VALUE; ROOM];
+    let values = &mut places[0..room];
+    let answer = reduce::zoom(points, &numbers[0..n], tolerance, values);
+    let end = case_texts::put_answer(answer, out, at);
+    case_texts::put_integers(values, out, end)
 }

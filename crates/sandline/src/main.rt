@@ -40,13 +40,6 @@ fn answer_all(input: &mut [u8], output: &mut [u8])
                 };
                 at = place;
             }
-            Taken::Long { next } => {
-                reader = next;
-                let Collected::At(place) = collect(&input[0..0], output, at) else {
-                    return;
-                };
-                at = place;
-            }
             Taken::More { at: place, next } => {
                 reader = lines::fed(next, read(&mut input[place..]));
             }

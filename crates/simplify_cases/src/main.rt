@@ -6,8 +6,10 @@ use libc::STDIN_FILENO;
 use libc::STDOUT_FILENO;
 use lines::Taken;
 
-// Fifteen sixteenths of the output hold the longest answer: two numbers, and 65,536 values of six letters and
-// a comma each, are less than 491,520 bytes.
+// The longest answer, two numbers and 65,536 values of six letters and a comma each, is shorter than 491,520 bytes,
+// and so fits behind what is kept.
+const FULL: usize = 32768;
+
 fn main() {
     let mut input = [0u8; 262144];
     let mut output = [0u8; 524288];
@@ -25,41 +27,34 @@ fn answer_all(input: &mut [u8], output: &mut [u8]) {
         match lines::take(reader, input) {
             Taken::Line { from, to, next } => {
                 reader = next;
-                at = collect(&input[from..to], output, at);
-            }
-            Taken::Long { next } => {
-                reader = next;
-                at = collect(&input[0..0], output, at);
+                let end = answer(&input[from..to], output, at);
+                at = case_texts::end_line(output, at, end);
+                at = flush(output, at, FULL);
             }
             Taken::More { at: place, next } => {
                 reader = lines::fed(next, read(&mut input[place..]));
             }
             Taken::End => {
-                write(output, at);
+                flush(output, at, 0);
                 return;
             }
         }
     }
 }
 
-// Puts the answer to a line at a place of the output. Once a sixteenth of the output is full it is written
-// out.
-fn collect(line: &[u8], output: &mut [u8], at: usize) -> usize {
-    let next = answer(line, output, at);
-    if next < output.len() / 16 {
-        return next;
-    }
-    write(output, next);
-    0
-}
-
+// Reads more of the input, and answers how many bytes came.
 fn read(part: &mut [u8]) -> usize {
     let got = libc::read(STDIN_FILENO, part);
     io::count(got, part)
 }
 
-fn write(output: &[u8], to: usize) {
-    if to <= output.len() {
-        io::write_all(STDOUT_FILENO, &output[0..to]);
+// Writes the output up to a place, where that is `least` or more, and answers where the next answer goes.
+fn flush(output: &[u8], at: usize, least: usize) -> usize {
+    if at < least {
+        return at;
     }
+    if at <= output.len() {
+        io::write_all(STDOUT_FILENO, &output[0..at]);
+    }
+    0
 }

@@ -6,33 +6,22 @@ use digits::Hex;
 // Puts the answer to the case of a line at a place of `out`, and answers the place behind it.
 pub fn answer(line: &[u8], out: &mut [u8], at: usize) -> usize {
     if lines::words(line) != 2 {
-        return bad(out, at);
+        return at;
     }
     let call = lines::word(line, 0);
     let Hex::Is(p) = digits::read_pattern(lines::word(line, 1)) else {
-        return bad(out, at);
+        return at;
     };
     if check::same(call, b"sqrt_bits") {
-        return pattern(sqrt::sqrt_bits(p), out, at);
+        let end = texts::put_hex(sqrt::sqrt_bits(p), 16, out, at);
+        return texts::put_byte(b' ', out, end);
     }
     if check::same(call, b"sqrt") {
-        return number(sqrt::sqrt(sqrt::from_bits(p)), out, at);
+        let root = sqrt::sqrt(sqrt::from_bits(p));
+        if root != root {
+            return case_texts::put_word(b"nan", out, at);
+        }
+        return case_texts::put_double(root, out, at);
     }
-    bad(out, at)
-}
-
-fn number(x: f64, out: &mut [u8], at: usize) -> usize {
-    if x != x {
-        return digits::put_bytes(b"nan\n", out, at);
-    }
-    pattern(sqrt::to_bits(x), out, at)
-}
-
-fn pattern(p: u64, out: &mut [u8], at: usize) -> usize {
-    let end = digits::put_hex(p, 16, out, at);
-    digits::put_byte(b'\n', out, end)
-}
-
-fn bad(out: &mut [u8], at: usize) -> usize {
-    digits::put_bytes(b"bad line\n", out, at)
+    at
 }

@@ -1,22 +1,22 @@
 // Answers the cases of standard input, one to a line, with a line each. `answer` says what a case is.
 mod answer;
-mod outline;
-mod put;
 mod state;
-mod take;
 
 use answer::answer;
 use libc::STDIN_FILENO;
 use libc::STDOUT_FILENO;
 use lines::Taken;
 
-// A value of an answer is a coordinate of up to 512, or the marker: at most 7 bytes with its comma. So the
-// longest answer, of 65,536 values, has less than 458,800 bytes, which `collect` always leaves free.
+// A value of an answer is a coordinate of up to 512, or the marker: at most 7 bytes with its comma. So the longest
+// answer, of 65,536 values, is shorter than 458,800 bytes, and fits behind what is kept.
+const FULL: usize = 32768;
+
 fn main() {
     let mut input = [0u8; 262144];
     let mut output = [0u8; 524288];
     answer_all(&mut input, &mut output);
 }
+
 // Answers each line. A proved loop has to end, and nothing says that an input does: so it counts its
 // turns down, from a number that no run uses up.
 fn answer_all(input: &mut [u8], output: &mut [u8]) {
@@ -28,40 +28,34 @@ fn answer_all(input: &mut [u8], output: &mut [u8]) {
         match lines::take(reader, input) {
             Taken::Line { from, to, next } => {
                 reader = next;
-                at = collect(&input[from..to], output, at);
-            }
-            Taken::Long { next } => {
-                reader = next;
-                at = collect(&input[0..0], output, at);
+                let end = answer(&input[from..to], output, at);
+                at = case_texts::end_line(output, at, end);
+                at = flush(output, at, FULL);
             }
             Taken::More { at: place, next } => {
                 reader = lines::fed(next, read(&mut input[place..]));
             }
             Taken::End => {
-                write(output, at);
+                flush(output, at, 0);
                 return;
             }
         }
     }
 }
 
-// Puts the answer to a line at a place of the output. Once a sixteenth of the output is full it is written out.
-fn collect(line: &[u8], output: &mut [u8], at: usize) -> usize {
-    let next = answer(line, output, at);
-    if next < output.len() / 16 {
-        return next;
-    }
-    write(output, next);
-    0
-}
-
+// Reads more of the input, and answers how many bytes came.
 fn read(part: &mut [u8]) -> usize {
     let got = libc::read(STDIN_FILENO, part);
     io::count(got, part)
 }
 
-fn write(output: &[u8], to: usize) {
-    if to <= output.len() {
-        io::write_all(STDOUT_FILENO, &output[0..to]);
+// Writes the output up to a place, where that is `least` or more, and answers where the next answer goes.
+fn flush(output: &[u8], at: usize, least: usize) -> usize {
+    if at < least {
+        return at;
     }
+    if at <= output.len() {
+        io::write_all(STDOUT_FILENO, &output[0..at]);
+    }
+    0
 }

@@ -43,31 +43,19 @@ answer-all-spec =
     (λ c. search laws)  -- returns
     (λ c. search laws)  -- loop-less
     (λ c. search laws)  -- loop-again
-    (λ c. search laws)  -- enum-known-next
-    (λ c. search laws)  -- sub-collect-2
-    (λ c. search laws)  -- part-collect-start-2
-    (λ c. search laws)  -- part-collect-end-2
-    (λ c κs. search laws)  -- collect-requires-2
     (λ c. search laws)  -- enum-known-place-2
-    (λ c. search laws)  -- enum-told-2
-    (λ c. search laws)  -- same-length-3
-    (λ c. search laws)  -- same-length-4
-    (λ c. search laws)  -- returns-2
-    (λ c. search laws)  -- loop-less-2
-    (λ c. search laws)  -- loop-again-2
-    (λ c. search laws)  -- enum-known-place-3
     (λ c. search laws)  -- sub-read
     (λ c. search laws)  -- part-read-start
     (λ c. search laws)  -- part-read-end
     (λ c κs. search laws)  -- read-requires
     (λ c κs. search laws)  -- fed-requires
-    (λ c. search laws)  -- loop-less-3
-    (λ c. search laws)  -- loop-again-3
-    (λ c. search laws)  -- enum-told-3
+    (λ c. search laws)  -- loop-less-2
+    (λ c. search laws)  -- loop-again-2
+    (λ c. search laws)  -- enum-told-2
     (λ c κs. search laws)  -- write-requires
+    (λ c. search laws)  -- same-length-3
+    (λ c. search laws)  -- same-length-4
+    (λ c. search laws)  -- returns-2
     (λ c. search laws)  -- same-length-5
     (λ c. search laws)  -- same-length-6
-    (λ c. search laws)  -- returns-3
-    (λ c. search laws)  -- same-length-7
-    (λ c. search laws)  -- same-length-8
-    (λ c. search laws))  -- returns-4
+    (λ c. search laws))  -- returns-3

@@ -25,29 +25,24 @@ answer-all-spec =
     (λ c. search laws)  -- sub-turns
     (λ c κs. search laws)  -- take-requires
     (λ c. search laws)  -- enum-known-from
-    (λ c. search laws)  -- sub-collect
-    (λ c. search laws)  -- part-collect-start
-    (λ c. search laws)  -- part-collect-end
-    (λ c κs. search laws)  -- collect-requires
+    (λ c. search laws)  -- sub-answer
+    (λ c. search laws)  -- part-answer-start
+    (λ c. search laws)  -- part-answer-end
+    (λ c κs. search laws)  -- answer-requires
+    (λ c κs. search laws)  -- end-line-requires
+    (λ c κs. search laws)  -- flush-requires
     (λ c. search laws)  -- loop-less
     (λ c. search laws)  -- loop-again
-    (λ c. search laws)  -- enum-known-next
-    (λ c. search laws)  -- sub-collect-2
-    (λ c. search laws)  -- part-collect-start-2
-    (λ c. search laws)  -- part-collect-end-2
-    (λ c κs. search laws)  -- collect-requires-2
-    (λ c. search laws)  -- loop-less-2
-    (λ c. search laws)  -- loop-again-2
     (λ c. search laws)  -- enum-known-place
     (λ c. search laws)  -- sub-read
     (λ c. search laws)  -- part-read-start
     (λ c. search laws)  -- part-read-end
     (λ c κs. search laws)  -- read-requires
     (λ c κs. search laws)  -- fed-requires
-    (λ c. search laws)  -- loop-less-3
-    (λ c. search laws)  -- loop-again-3
+    (λ c. search laws)  -- loop-less-2
+    (λ c. search laws)  -- loop-again-2
     (λ c. search laws)  -- enum-told
-    (λ c κs. search laws)  -- write-requires
+    (λ c κs. search laws)  -- flush-requires-2
     (λ c. search laws)  -- same-length
     (λ c. search laws)  -- same-length-2
     (λ c. search laws)  -- returns

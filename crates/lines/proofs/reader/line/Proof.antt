@@ -5,12 +5,12 @@ use mathlib.Core.Path.{_≡_}
 use borrow.Author.Needs.{needs}
 use Rattle.lines.specs.Reader.{past, lineEnds}
 use Rattle.lines.specs.declared.reader.Reader.{Reader}
-use Rattle.lines.specs.declared.reader.Taken.the-variants.{Line, Long}
+use Rattle.lines.specs.declared.reader.Taken.the-variants.{Line}
 use Rattle.lines.proofs.reader.line.Statement.{statement}
 use Rattle.lines.proofs.reader.line.Tie as tie
 
 module _ (r : Reader) (to next : ℕ) where
-  was-long : r .long ≡ true → Long (past r next) ≡ lineEnds r to next
+  was-long : r .long ≡ true → Line to to (past r next) ≡ lineEnds r to next
   was-long e = rw e
 
   was-held : r .long ≡ false → Line (r .start) to (past r next) ≡ lineEnds r to next

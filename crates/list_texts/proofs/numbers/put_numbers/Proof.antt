@@ -56,13 +56,13 @@ put-numbers-spec =
     (tie.spec
     Inv-loop
     μ-loop
-    (λ c. search laws)  -- shared-slice-copy-out-put-number
-    (λ c κs. search laws)  -- put-number-requires
+    (λ c. search laws)  -- shared-slice-copy-out-put-integer
+    (λ c κs. search laws)  -- put-integer-requires
     (λ c. search laws)  -- loop-holds
     (λ c κs. search laws)  -- put-byte-requires
-    (λ c. search laws)  -- mul-put-number
-    (λ c. search laws)  -- shared-slice-copy-out-put-number-2
-    (λ c κs. search laws)  -- put-number-requires-2
+    (λ c. search laws)  -- mul-put-integer
+    (λ c. search laws)  -- shared-slice-copy-out-put-integer-2
+    (λ c κs. search laws)  -- put-integer-requires-2
     (λ c. search laws)  -- add-i
     (λ c. search laws)  -- loop-less
     (λ c. search laws)  -- loop-again

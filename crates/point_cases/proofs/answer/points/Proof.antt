@@ -10,15 +10,19 @@ pub points-spec : {M : Type 1} → statement M
 points-spec =
     tie.close
     (tie.spec
-    (λ c. search laws)  -- slice-aggregate-read-list
-    (λ c κs. search laws)  -- read-list-requires
+    (λ c. search laws)  -- slice-aggregate-read-integers
+    (λ c κs. search laws)  -- read-integers-requires
     (λ c. search laws)  -- enum-known-n
     (λ c. search laws)  -- enum-told
     (λ c. search laws)  -- returns
     (λ c κs. search laws)  -- too-many-requires
+    (λ c κs. search laws)  -- judged-requires
+    (λ c. search laws)  -- same-length
+    (λ c. search laws)  -- returns-2
     (λ c. search laws)  -- sub-bad-points
     (λ c. search laws)  -- part-bad-points-start
     (λ c. search laws)  -- part-bad-points-end
     (λ c κs. search laws)  -- bad-points-requires
-    (λ c κs. search laws)  -- list-verdict-requires
-    (λ c. search laws))  -- returns-2
+    (λ c κs. search laws)  -- judged-requires-2
+    (λ c. search laws)  -- same-length-2
+    (λ c. search laws))  -- returns-3

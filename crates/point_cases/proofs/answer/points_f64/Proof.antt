@@ -10,14 +10,19 @@ pub points-f64-spec : {M : Type 1} → statement M
 points-f64-spec =
     tie.close
     (tie.spec
-    (λ c. search laws)  -- slice-aggregate-read-patterns
-    (λ c κs. search laws)  -- read-patterns-requires
+    (λ c. search laws)  -- slice-aggregate-read-doubles
+    (λ c κs. search laws)  -- read-doubles-requires
     (λ c. search laws)  -- enum-known-n
     (λ c. search laws)  -- enum-told
     (λ c. search laws)  -- returns
-    (λ c. search laws)  -- sub-patterns-verdict
-    (λ c. search laws)  -- part-patterns-verdict-start
-    (λ c. search laws)  -- part-patterns-verdict-end
-    (λ c. search laws)  -- slice-aggregate-patterns-verdict
-    (λ c κs. search laws)  -- patterns-verdict-requires
-    (λ c. search laws))  -- returns-2
+    (λ c κs. search laws)  -- too-many-requires
+    (λ c κs. search laws)  -- judged-requires
+    (λ c. search laws)  -- same-length
+    (λ c. search laws)  -- returns-2
+    (λ c. search laws)  -- sub-bad-points-f64
+    (λ c. search laws)  -- part-bad-points-f64-start
+    (λ c. search laws)  -- part-bad-points-f64-end
+    (λ c κs. search laws)  -- bad-points-f64-requires
+    (λ c κs. search laws)  -- judged-requires-2
+    (λ c. search laws)  -- same-length-2
+    (λ c. search laws))  -- returns-3

@@ -10,25 +10,24 @@ pub given-spec : {M : Type 1} → statement M
 given-spec =
     tie.close
     (tie.spec
-    (λ c κs. search laws)  -- read-natural-requires
-    (λ c. search laws)  -- enum-known-size
-    (λ c. search laws)  -- enum-told
-    (λ c κs. search laws)  -- bad-requires
-    (λ c. search laws)  -- same-length
+    (λ c. search laws)  -- add-word
+    (λ c κs. search laws)  -- word-requires
+    (λ c κs. search laws)  -- read-room-requires
     (λ c. search laws)  -- returns
-    (λ c κs. search laws)  -- bad-requires-2
-    (λ c. search laws)  -- same-length-2
-    (λ c. search laws)  -- returns-2
-    (λ c. search laws)  -- slice-aggregate-read-list
-    (λ c κs. search laws)  -- read-list-requires
+    (λ c κs. search laws)  -- word-requires-2
+    (λ c. search laws)  -- slice-aggregate-read-integers
+    (λ c κs. search laws)  -- read-integers-requires
     (λ c. search laws)  -- enum-known-n
-    (λ c. search laws)  -- enum-told-2
-    (λ c κs. search laws)  -- bad-requires-3
-    (λ c. search laws)  -- same-length-3
-    (λ c. search laws)  -- returns-3
-    (λ c. search laws)  -- sub-with-room
-    (λ c. search laws)  -- part-with-room-start
-    (λ c. search laws)  -- part-with-room-end
-    (λ c κs. search laws)  -- with-room-requires
-    (λ c. search laws)  -- same-length-4
-    (λ c. search laws))  -- returns-4
+    (λ c. search laws)  -- enum-told
+    (λ c. search laws)  -- returns-2
+    (λ c. search laws)  -- sub-kept
+    (λ c. search laws)  -- part-places-start
+    (λ c. search laws)  -- part-places-end
+    (λ c. search laws)  -- sub-made
+    (λ c. search laws)  -- part-made-start
+    (λ c. search laws)  -- part-made-end
+    (λ c κs. search laws)  -- made-requires
+    (λ c κs. search laws)  -- put-answer-requires
+    (λ c κs. search laws)  -- put-integers-requires
+    (λ c. cc)  -- same-length
+    (λ c. search laws))  -- returns-3

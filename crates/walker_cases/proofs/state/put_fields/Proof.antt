@@ -7,10 +7,10 @@ use Rattle.walker_cases.proofs.state.put_fields.Statement.{statement}
 use Rattle.walker_cases.proofs.state.put_fields.Tie as tie
 
 abbrev Inv-loop : tie.InvT-loop
-Inv-loop fields out₀ at end₀ i₀ out end i = (i ≤ length fields) × (length out ≡ length out₀)
+Inv-loop fields out₀ at end₀ i₀ out end i = (i ≤ 7) × (length out ≡ length out₀)
 
 abbrev μ-loop : tie.MeasureT-loop
-μ-loop fields out₀ at end₀ i₀ out end i = length fields - i
+μ-loop fields out₀ at end₀ i₀ out end i = 7 - i
 
 pub put-fields-spec : {M : Type 1} → statement M
 put-fields-spec =
@@ -19,9 +19,9 @@ put-fields-spec =
     Inv-loop
     μ-loop
     (λ c. search needs)  -- loop-holds
-    (λ c. search needs)  -- mul-small
-    (λ c. search needs)  -- shared-slice-copy-out-small
-    (λ c κs. search needs)  -- small-requires
+    (λ c. search needs)  -- mul-put-integer
+    (λ c. search needs)  -- element-copy-out-put-integer
+    (λ c κs. search needs)  -- put-integer-requires
     (λ c. search needs)  -- add-i
     (λ c. search needs)  -- loop-less
     (λ c. search needs)  -- loop-again

@@ -17,8 +17,9 @@ read-fields-spec =
     Inv-loop
     μ-loop
     (λ c. search needs)  -- loop-holds
-    (λ c. search needs)  -- add-read-small
-    (λ c κs. search needs)  -- read-small-requires
+    (λ c. search needs)  -- add-word
+    (λ c κs. search needs)  -- word-requires
+    (λ c κs. search needs)  -- read-integer-requires
     (λ c. search needs)  -- enum-known-n
     (λ c. search needs)  -- enum-told
     (λ c. search needs)  -- returns

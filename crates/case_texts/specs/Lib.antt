@@ -1,0 +1,3 @@
+-- What the crate promises: `Spaced` says what is put.
+pub mod Spaced
+pub mod Examples

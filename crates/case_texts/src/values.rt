@@ -1,0 +1,88 @@
+// Values, each with a space behind it. A list of none is `-`.
+ghost use mathlib.Core.Path.{_≡_};
+ghost use Rattle.texts.specs.Text.{naturalText, decimalText};
+ghost use Rattle.list_texts.specs.Texts.{listText, doubleText, doublesText, pairsText};
+ghost use Rattle.point.specs.Refusals.{numberOf, countOf};
+ghost use Rattle.case_texts.specs.Spaced.{choiceText, spaced, counted};
+use point::Answer;
+
+// A word as it stands.
+pub fn put_word(word: &[u8], out: &mut [u8], at: usize) -> usize
+    ensures { λ r. ⌜ record { next = r; out = now (out .exit) } ≡ spaced (now (word .entry)) (now (out .entry)) at ⌝ }
+{
+    let end = texts::put_bytes(word, out, at);
+    texts::put_byte(b' ', out, end)
+}
+
+// 1 for what is set, and 0 for what is not.
+pub fn put_choice(set: bool, out: &mut [u8], at: usize) -> usize
+    ensures { λ r. ⌜ record { next = r; out = now (out .exit) } ≡ spaced (choiceText set) (now (out .entry)) at ⌝ }
+{
+    if set {
+        return put_word(b"1", out, at);
+    }
+    put_word(b"0", out, at)
+}
+
+// A number from zero on.
+pub fn put_natural(n: u64, out: &mut [u8], at: usize) -> usize
+    ensures { λ r. ⌜ record { next = r; out = now (out .exit) } ≡ spaced (naturalText n) (now (out .entry)) at ⌝ }
+{
+    let end = texts::put_natural(n, out, at);
+    texts::put_byte(b' ', out, end)
+}
+
+// A number below zero or not.
+pub fn put_integer(n: i32, out: &mut [u8], at: usize) -> usize
+    ensures { λ r. ⌜ record { next = r; out = now (out .exit) } ≡ spaced (decimalText n) (now (out .entry)) at ⌝ }
+{
+    let end = list_texts::put_integer(n, out, at);
+    texts::put_byte(b' ', out, end)
+}
+
+// A double: the 16 hexadecimal digits of its pattern.
+pub fn put_double(x: f64, out: &mut [u8], at: usize) -> usize
+    ensures { λ r. ⌜ record { next = r; out = now (out .exit) } ≡ spaced (doubleText x) (now (out .entry)) at ⌝ }
+{
+    let end = list_texts::put_double(x, out, at);
+    texts::put_byte(b' ', out, end)
+}
+
+// Numbers, a comma between each two.
+pub fn put_integers(values: &[i32], out: &mut [u8], at: usize) -> usize
+    ensures { λ r. ⌜ record { next = r; out = now (out .exit) } ≡ spaced (listText (now (values .entry))) (now (out .entry)) at ⌝ }
+{
+    let end = list_texts::put_list(values, out, at);
+    texts::put_byte(b' ', out, end)
+}
+
+// Doubles, a comma between each two.
+pub fn put_doubles(values: &[f64], out: &mut [u8], at: usize) -> usize
+    ensures { λ r. ⌜ record { next = r; out = now (out .exit) } ≡ spaced (doublesText (now (values .entry))) (now (out .entry)) at ⌝ }
+{
+    let end = list_texts::put_doubles(values, out, at);
+    texts::put_byte(b' ', out, end)
+}
+
+// Bytes, each as two hexadecimal digits.
+pub fn put_bytes(values: &[u8], out: &mut [u8], at: usize) -> usize
+    ensures { λ r. ⌜ record { next = r; out = now (out .exit) } ≡ spaced (pairsText (now (values .entry))) (now (out .entry)) at ⌝ }
+{
+    let end = list_texts::put_pairs(values, out, at);
+    texts::put_byte(b' ', out, end)
+}
+
+// A number and a count.
+pub fn put_count(number: u8, count: usize, out: &mut [u8], at: usize) -> usize
+    ensures { λ r. ⌜ record { next = r; out = now (out .exit) } ≡ counted number count (now (out .entry)) at ⌝ }
+{
+    let end = put_natural(number as u64, out, at);
+    put_natural(count as u64, out, end)
+}
+
+// The number of an answer, and its count.
+pub fn put_answer(answer: Answer, out: &mut [u8], at: usize) -> usize
+    ensures { λ r. ⌜ record { next = r; out = now (out .exit) } ≡ counted (numberOf answer) (countOf answer) (now (out .entry)) at ⌝ }
+{
+    put_count(answer.number(), answer.count(), out, at)
+}

@@ -1,0 +1,3 @@
+-- What the crate promises: `Words` says what a word is read as.
+pub mod Words
+pub mod Examples

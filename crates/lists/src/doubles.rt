@@ -1,0 +1,65 @@
+// A list of doubles, each the 16 hexadecimal digits of its pattern.
+ghost use mathlib.Core.Path.{_≡_};
+ghost use lib.ListN.{length};
+ghost use Rattle.lists.specs.Lists.{double, itemsOf, listOf, countOf, over, Room, readInto};
+use crate::Read;
+use crate::is_dash;
+use crate::items::item_end;
+use digits::Hex;
+use digits::read_pattern;
+
+// Reads a list, whose values `sep` parts, to the start of `to`, and answers how many values it has. Where one is no pattern, or
+// there is no room for all, it writes nothing.
+pub fn read_doubles(word: &[u8], sep: u8, to: &mut [f64]) -> Read
+    ensures { λ r. ⌜ record { answer = r; to = now (to .exit) } ≡ readInto (listOf double sep (now (word .entry))) (now (to .entry)) ⌝ }
+{
+    if is_dash(word) {
+        return Read::Is(0);
+    }
+    let Read::Is(n) = count_doubles(word, sep) else {
+        return Read::Not;
+    };
+    if to.len() < n {
+        return Read::Not;
+    }
+    write_doubles(word, sep, to);
+    Read::Is(n)
+}
+
+fn count_doubles(word: &[u8], sep: u8) -> Read
+    ensures { λ r. ⌜ r ≡ countOf (itemsOf double sep (now (word .entry))) ⌝ }
+{
+    let mut n = 0;
+    let mut at = 0;
+    loop {
+        let end = item_end(word, sep, at);
+        let Hex::Is(_value) = read_pattern(&word[at..end]) else {
+            return Read::Not;
+        };
+        n += 1;
+        if end == word.len() {
+            return Read::Is(n);
+        }
+        at = end + 1;
+    }
+}
+
+fn write_doubles(word: &[u8], sep: u8, to: &mut [f64])
+    requires { ⌜ Room (itemsOf double sep (now word)) 0 (length (now to)) ⌝ }
+    ensures { λ _. ⌜ now (to .exit) ≡ over (itemsOf double sep (now (word .entry))) (now (to .entry)) ⌝ }
+{
+    let mut n = 0;
+    let mut at = 0;
+    loop {
+        let end = item_end(word, sep, at);
+        let Hex::Is(value) = read_pattern(&word[at..end]) else {
+            return;
+        };
+        to[n] = sqrt::from_bits(value);
+        n += 1;
+        if end == word.len() {
+            return;
+        }
+        at = end + 1;
+    }
+}
