@@ -152,14 +152,14 @@ uint8_t sandline_simplify(const int32_t *points, size_t length, bool clockwise, 
 
 // The radial pass: a point is kept if it lies farther than the tolerance from the last one kept; the first and
 // the last stay. The tolerance is SQUARED, 0 to 4,294,967,296 square pixels.
-// Stack of sandline_simplify_radial_dist: 88 bytes.
+// Stack of sandline_simplify_radial_dist: 104 bytes.
 uint8_t sandline_simplify_radial_dist(const int32_t *points, size_t length, double tolerance, int32_t *out,
                                       size_t room, size_t *count);
 
 // Douglas-Peucker at a SQUARED tolerance, 0 to 4,294,967,296. Both ends stay; one point is answered twice.
 // After it marks starts with n bytes, 1 for each point kept and 0 for each dropped.
 // Room: n marks too. Refuses a list of no points (4) too.
-// Stack of sandline_simplify_douglas_peucker: 280 bytes, and 144 for each further level, n - 2 of them at most.
+// Stack of sandline_simplify_douglas_peucker: 296 bytes, and 144 for each further level, n - 2 of them at most.
 uint8_t sandline_simplify_douglas_peucker(const int32_t *points, size_t length, double tolerance, int32_t *out,
                                           size_t room, uint8_t *marks, size_t mark_room, size_t *count);
 
@@ -167,21 +167,21 @@ uint8_t sandline_simplify_douglas_peucker(const int32_t *points, size_t length, 
 // Up to two points, and any list at tolerance 0, are answered whole; else scratch starts with the list that
 // the radial pass left, and marks with one byte for each point of that.
 // Room: 2n elements of scratch and n marks too.
-// Stack of sandline_reduce: 328 bytes, and 144 for each further level, n - 2 of them at most.
+// Stack of sandline_reduce: 360 bytes, and 144 for each further level, n - 2 of them at most.
 uint8_t sandline_reduce(const int32_t *points, size_t length, double tolerance, int32_t *out, size_t room,
                         int32_t *scratch, size_t scratch_room, uint8_t *marks, size_t mark_room, size_t *count);
 
 // One number for each point: at exactly the squared tolerances below it Douglas-Peucker keeps the point. Both
 // ends have infinity. Count is n.
 // Room: n doubles, 2 where n is 1. No tolerance; refuses a list of no points (4) too.
-// Stack of sandline_numbers: 232 bytes, and 160 for each further level, n - 2 of them at most.
+// Stack of sandline_numbers: 216 bytes, and 144 for each further level, n - 2 of them at most.
 uint8_t sandline_numbers(const int32_t *points, size_t length, double *out, size_t room, size_t *count);
 
 // The points whose number is greater than a SQUARED tolerance, with both ends: what Douglas-Peucker answers at
 // that tolerance, at the cost of one comparison for each point. The numbers are those of the same list; numbers_length
 // other than n is a bad list (3).
 // Refuses a list of no points (4) too.
-// Stack of sandline_zoom: 120 bytes.
+// Stack of sandline_zoom: 40 bytes.
 uint8_t sandline_zoom(const int32_t *points, size_t length, const double *numbers, size_t numbers_length,
                       double tolerance, int32_t *out, size_t room, size_t *count);
 
@@ -294,7 +294,7 @@ uint8_t sandline_spiral_advance(sandline_spiral_walker *spiral, int32_t place[2]
 // It is written from out[at] on, also with no end of line, and the place behind it is returned; where it does not fit
 // nothing is written, and at itself is returned. An answer has 8 digits at least, and 32,768 at most.
 // Whatever the line holds is answered; what is no frame by ff0b0000. Out and at are in digits.
-// Stack of sandline_answer: 119,232 bytes, and 160 for each further level (frames 03 and 04).
+// Stack of sandline_answer: 119,232 bytes, and 144 for each further level (frames 03 and 04).
 size_t sandline_answer(const uint8_t *line, size_t length, uint8_t *out, size_t room, size_t at);
 
 #ifdef __cplusplus
