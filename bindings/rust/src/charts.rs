@@ -1,6 +1,6 @@
 //! Charts, and walks along the outline of what is set.
 
-use crate::refusal::handed;
+use crate::refusal::answered;
 use crate::{raw, Point, Refusal};
 
 /// A bitmap, 1 to 512 pixels wide and high: rows from the top, each padded to whole bytes, one bit a pixel,
@@ -36,10 +36,9 @@ impl Chart<'_> {
     /// ```
     pub fn area(&self) -> Result<usize, Refusal> {
         let (pixels, bytes) = (self.pixels.as_ptr(), self.pixels.len());
-        let mut count = 0;
-        let number =
-            unsafe { raw::sandline_area(self.width, self.height, pixels, bytes, &mut count) };
-        handed(number, count)
+        answered(0, |count| unsafe {
+            raw::sandline_area(self.width, self.height, pixels, bytes, count)
+        })
     }
 
     /// Where a walk may begin: the top left corner of the first set pixel, row by row.
@@ -51,11 +50,9 @@ impl Chart<'_> {
     /// ```
     pub fn first_start(&self) -> Result<Point, Refusal> {
         let (pixels, bytes) = (self.pixels.as_ptr(), self.pixels.len());
-        let mut start = [0; 2];
-        let number = unsafe {
-            raw::sandline_first_start(self.width, self.height, pixels, bytes, &mut start)
-        };
-        handed(number, start)
+        answered([0; 2], |start| unsafe {
+            raw::sandline_first_start(self.width, self.height, pixels, bytes, start)
+        })
     }
 
     /// Puts the outline of what is set at the start of `out`, walked from a corner of a pixel: the start,
@@ -75,8 +72,7 @@ impl Chart<'_> {
     pub fn walk(&self, start: Point, clockwise: bool, out: &mut [Point]) -> Result<usize, Refusal> {
         let (pixels, bytes) = (self.pixels.as_ptr(), self.pixels.len());
         let out = out.as_flattened_mut();
-        let mut count = 0;
-        let number = unsafe {
+        answered(0, |count| unsafe {
             raw::sandline_walk(
                 self.width,
                 self.height,
@@ -87,9 +83,8 @@ impl Chart<'_> {
                 clockwise,
                 out.as_mut_ptr(),
                 out.len(),
-                &mut count,
+                count,
             )
-        };
-        handed(number, count)
+        })
     }
 }

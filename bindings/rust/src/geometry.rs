@@ -1,6 +1,6 @@
 //! Roots, areas, midpoints, lengths and the crossing of two lines.
 
-use crate::refusal::handed;
+use crate::refusal::{answered, handed};
 use crate::{raw, Point, PointF64, Refusal};
 
 /// The square root as IEEE 754 has it: the double nearest to the exact root, ties to even.
@@ -29,9 +29,7 @@ pub fn sqrt_bits(bits: u64) -> u64 {
 /// ```
 pub fn signed_area(p1: Point, p2: Point, p3: Point) -> Result<i32, Refusal> {
     let points = [p1[0], p1[1], p2[0], p2[1], p3[0], p3[1]];
-    let mut area = 0;
-    let number = unsafe { raw::sandline_signed_area(&points, &mut area) };
-    handed(number, area)
+    answered(0, |area| unsafe { raw::sandline_signed_area(&points, area) })
 }
 
 /// The midpoint of two points.
@@ -40,9 +38,7 @@ pub fn signed_area(p1: Point, p2: Point, p3: Point) -> Result<i32, Refusal> {
 /// assert_eq!(sandline::find_mid_point([0.0, 0.0], [3.0, -4.0]), Ok([1.5, -2.0]));
 /// ```
 pub fn find_mid_point(p1: PointF64, p2: PointF64) -> Result<PointF64, Refusal> {
-    let mut middle = [0.0; 2];
-    let number = unsafe { raw::sandline_find_mid_point(&joined(p1, p2), &mut middle) };
-    handed(number, middle)
+    answered([0.0; 2], |middle| unsafe { raw::sandline_find_mid_point(&joined(p1, p2), middle) })
 }
 
 /// The length of a vector.
@@ -52,9 +48,7 @@ pub fn find_mid_point(p1: PointF64, p2: PointF64) -> Result<PointF64, Refusal> {
 /// assert_eq!(sandline::norm([f64::NAN, 0.0]), Err(sandline::Refusal::BadPoint));
 /// ```
 pub fn norm(p: PointF64) -> Result<f64, Refusal> {
-    let mut length = 0.0;
-    let number = unsafe { raw::sandline_norm(p[0], p[1], &mut length) };
-    handed(number, length)
+    answered(0.0, |length| unsafe { raw::sandline_norm(p[0], p[1], length) })
 }
 
 /// The length of a vector in whole numbers.
@@ -63,9 +57,7 @@ pub fn norm(p: PointF64) -> Result<f64, Refusal> {
 /// assert_eq!(sandline::norm_i32([3, -4]), Ok(5.0));
 /// ```
 pub fn norm_i32(p: Point) -> Result<f64, Refusal> {
-    let mut length = 0.0;
-    let number = unsafe { raw::sandline_norm_i32(p[0], p[1], &mut length) };
-    handed(number, length)
+    answered(0.0, |length| unsafe { raw::sandline_norm_i32(p[0], p[1], length) })
 }
 
 /// Where two lines cross.

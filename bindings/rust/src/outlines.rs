@@ -3,7 +3,7 @@
 //! Each call puts what is left at the start of `out` and answers how many points that is. It asks for
 //! `places(points.len())` places.
 
-use crate::refusal::handed;
+use crate::refusal::answered;
 use crate::{raw, Point, Refusal};
 
 /// Leaves out one-pixel staircases. `clockwise` says which way round the list goes.
@@ -22,18 +22,16 @@ pub fn remove_staircase(
     out: &mut [Point],
 ) -> Result<usize, Refusal> {
     let (points, out) = (points.as_flattened(), out.as_flattened_mut());
-    let mut count = 0;
-    let number = unsafe {
+    answered(0, |count| unsafe {
         raw::sandline_remove_staircase(
             points.as_ptr(),
             points.len(),
             clockwise,
             out.as_mut_ptr(),
             out.len(),
-            &mut count,
+            count,
         )
-    };
-    handed(number, count)
+    })
 }
 
 /// Leaves out the points that cost less than 1 to leave out: the square of the area of the triangle that
@@ -51,17 +49,15 @@ pub fn remove_staircase(
 /// ```
 pub fn limit_penalties(points: &[Point], out: &mut [Point]) -> Result<usize, Refusal> {
     let (points, out) = (points.as_flattened(), out.as_flattened_mut());
-    let mut count = 0;
-    let number = unsafe {
+    answered(0, |count| unsafe {
         raw::sandline_limit_penalties(
             points.as_ptr(),
             points.len(),
             out.as_mut_ptr(),
             out.len(),
-            &mut count,
+            count,
         )
-    };
-    handed(number, count)
+    })
 }
 
 /// Both, one after the other: what to do with a walked outline.
@@ -76,16 +72,14 @@ pub fn limit_penalties(points: &[Point], out: &mut [Point]) -> Result<usize, Ref
 /// ```
 pub fn simplify(points: &[Point], clockwise: bool, out: &mut [Point]) -> Result<usize, Refusal> {
     let (points, out) = (points.as_flattened(), out.as_flattened_mut());
-    let mut count = 0;
-    let number = unsafe {
+    answered(0, |count| unsafe {
         raw::sandline_simplify(
             points.as_ptr(),
             points.len(),
             clockwise,
             out.as_mut_ptr(),
             out.len(),
-            &mut count,
+            count,
         )
-    };
-    handed(number, count)
+    })
 }

@@ -86,6 +86,11 @@ impl fmt::Display for Refusal {
 
 impl core::error::Error for Refusal {}
 
+/// What a call answers that puts its answer in place of the one it is lent.
+pub(crate) fn answered<T>(mut answer: T, call: impl FnOnce(&mut T) -> u8) -> Result<T, Refusal> {
+    handed(call(&mut answer), answer)
+}
+
 /// What a call answers whose number was this: `answer` if it is done.
 pub(crate) fn handed<T>(number: u8, answer: T) -> Result<T, Refusal> {
     match number {

@@ -1,6 +1,6 @@
 //! Corners, and one round of subdivision.
 
-use crate::refusal::handed;
+use crate::refusal::{answered, handed};
 use crate::{raw, Point, PointF64, Refusal};
 
 /// The angle from which on a turn is a corner: `c` and `s` are proportional to its cosine and sine, so that
@@ -33,8 +33,7 @@ pub fn find_corners(
     flags: &mut [u8],
 ) -> Result<usize, Refusal> {
     let points = points.as_flattened();
-    let mut count = 0;
-    let number = unsafe {
+    answered(0, |count| unsafe {
         raw::sandline_find_corners(
             points.as_ptr(),
             points.len(),
@@ -43,10 +42,9 @@ pub fn find_corners(
             closed,
             flags.as_mut_ptr(),
             flags.len(),
-            &mut count,
+            count,
         )
-    };
-    handed(number, count)
+    })
 }
 
 /// What a round of subdivision goes by.

@@ -1,6 +1,6 @@
 //! A square of pixels, one by one from its centre outwards.
 
-use crate::refusal::handed;
+use crate::refusal::{answered, handed};
 use crate::{raw, Point, Refusal};
 
 /// Where a spiral stands, and how it goes on. [`Spiral::new`] makes one; a field out of range makes
@@ -42,10 +42,10 @@ impl Spiral {
     /// # Ok::<(), Refusal>(())
     /// ```
     pub fn new(size: usize) -> Result<Spiral, Refusal> {
-        let mut spiral =
-            Spiral { x: 0, y: 0, dir: 0, gx: 0, gy: 0, sq: 0, cc: 0, area: 0, step: 0 };
-        let number = unsafe { raw::sandline_spiral(size, &mut spiral) };
-        handed(number, spiral)
+        answered(
+            Spiral { x: 0, y: 0, dir: 0, gx: 0, gy: 0, sq: 0, cc: 0, area: 0, step: 0 },
+            |spiral| unsafe { raw::sandline_spiral(size, spiral) },
+        )
     }
 
     /// One step: the place that the spiral stood on, or none where it has ended, and then it stays as it

@@ -1,6 +1,6 @@
 //! Fewer points, the wider the tolerance.
 
-use crate::refusal::handed;
+use crate::refusal::answered;
 use crate::{raw, Point, Refusal};
 
 /// The radial pass: keeps a point if it lies farther than the tolerance from the last one kept, and the
@@ -21,18 +21,16 @@ pub fn simplify_radial_dist(
     out: &mut [Point],
 ) -> Result<usize, Refusal> {
     let (points, out) = (points.as_flattened(), out.as_flattened_mut());
-    let mut count = 0;
-    let number = unsafe {
+    answered(0, |count| unsafe {
         raw::sandline_simplify_radial_dist(
             points.as_ptr(),
             points.len(),
             sq_tolerance,
             out.as_mut_ptr(),
             out.len(),
-            &mut count,
+            count,
         )
-    };
-    handed(number, count)
+    })
 }
 
 /// Douglas-Peucker at a squared tolerance, 0 to 4,294,967,296 square pixels. Both ends stay; one point is
@@ -55,8 +53,7 @@ pub fn simplify_douglas_peucker(
     marks: &mut [u8],
 ) -> Result<usize, Refusal> {
     let (points, out) = (points.as_flattened(), out.as_flattened_mut());
-    let mut count = 0;
-    let number = unsafe {
+    answered(0, |count| unsafe {
         raw::sandline_simplify_douglas_peucker(
             points.as_ptr(),
             points.len(),
@@ -65,10 +62,9 @@ pub fn simplify_douglas_peucker(
             out.len(),
             marks.as_mut_ptr(),
             marks.len(),
-            &mut count,
+            count,
         )
-    };
-    handed(number, count)
+    })
 }
 
 /// The radial pass at half the squared tolerance, and then Douglas-Peucker. The tolerance is in pixels, 0
@@ -93,8 +89,7 @@ pub fn reduce(
 ) -> Result<usize, Refusal> {
     let (points, out) = (points.as_flattened(), out.as_flattened_mut());
     let scratch = scratch.as_flattened_mut();
-    let mut count = 0;
-    let number = unsafe {
+    answered(0, |count| unsafe {
         raw::sandline_reduce(
             points.as_ptr(),
             points.len(),
@@ -105,10 +100,9 @@ pub fn reduce(
             scratch.len(),
             marks.as_mut_ptr(),
             marks.len(),
-            &mut count,
+            count,
         )
-    };
-    handed(number, count)
+    })
 }
 
 /// Puts one number for each point at the start of `out`: at exactly the squared tolerances below it
@@ -124,17 +118,9 @@ pub fn reduce(
 /// ```
 pub fn numbers(points: &[Point], out: &mut [f64]) -> Result<usize, Refusal> {
     let points = points.as_flattened();
-    let mut count = 0;
-    let number = unsafe {
-        raw::sandline_numbers(
-            points.as_ptr(),
-            points.len(),
-            out.as_mut_ptr(),
-            out.len(),
-            &mut count,
-        )
-    };
-    handed(number, count)
+    answered(0, |count| unsafe {
+        raw::sandline_numbers(points.as_ptr(), points.len(), out.as_mut_ptr(), out.len(), count)
+    })
 }
 
 /// Puts the points whose number is greater than a squared tolerance, with both ends, at the start of `out`:
@@ -159,8 +145,7 @@ pub fn zoom(
     out: &mut [Point],
 ) -> Result<usize, Refusal> {
     let (points, out) = (points.as_flattened(), out.as_flattened_mut());
-    let mut count = 0;
-    let number = unsafe {
+    answered(0, |count| unsafe {
         raw::sandline_zoom(
             points.as_ptr(),
             points.len(),
@@ -169,8 +154,7 @@ pub fn zoom(
             sq_tolerance,
             out.as_mut_ptr(),
             out.len(),
-            &mut count,
+            count,
         )
-    };
-    handed(number, count)
+    })
 }
