@@ -1,8 +1,8 @@
 -- The points that marks select, one after the other; and the same by numbers. Assumes nothing.
-use Prim.Native.Nat.{ℕ, suc, _+_, _<_, _≤_}
+use Prim.Native.Nat.{ℕ, suc, _+_, _-_, _<_, _≤_}
 use mathlib.Core.Bool.{Bool, true, false}
 use mathlib.Core.List.{List, [], _∷_}
-use mathlib.Core.Path.{_≡_, refl, sym}
+use mathlib.Core.Path.{_≡_, refl, sym, ap}
 use native.Mathlib.Numerals.{add-one}
 use native.Mathlib.Omega.{arith}
 use lib.Dec.{eqb}
@@ -67,12 +67,26 @@ kept-fits marks (p ∷ q ∷ ps) = omega (arith, select-shorter marks (p ∷ q �
 
 -- ---- by numbers
 
-pub first-kept : (tolerance : Float) (numbers : List Float) (ps : List PointI32) (d : PointI32) → 0 < length numbers → 0 < length ps →
-    select (marksBy tolerance numbers) ps ≡ getD ps 0 d ∷ select (marksAfter tolerance (drop 1 numbers)) (drop 1 ps)
-unfolding select marksBy
-first-kept tolerance [] ps d h i = absurd (omega arith)
-first-kept tolerance (v ∷ vs) [] d h i = absurd (omega arith)
-first-kept tolerance (v ∷ vs) (p ∷ ps) d h i = refl
+pub kept-first : (tolerance : Float) (numbers : List Float) (ps : List PointI32) (d : PointI32) → 0 < length ps → length numbers ≡ length ps →
+    kept (marksBy tolerance numbers) ps ≡ getD ps 0 d ∷ drop 1 (kept (marksBy tolerance numbers) ps)
+unfolding kept marksBy
+kept-first tolerance numbers [] d h e = absurd (omega arith)
+kept-first tolerance [] (p ∷ ps) d h e = absurd (omega arith)
+kept-first tolerance (v ∷ vs) (p ∷ []) d h e = refl
+kept-first tolerance (v ∷ vs) (p ∷ q ∷ ps) d h e = refl
+
+-- those after the first: of one point itself, which is the last
+pub kept-after : (tolerance : Float) (numbers : List Float) (ps : List PointI32) → 0 < length ps → length numbers ≡ length ps →
+    drop 1 (kept (marksBy tolerance numbers) ps)
+    ≡ select (marksAfter tolerance (drop (length ps - 1 - (length ps - 1 - 1)) numbers)) (drop (length ps - 1 - (length ps - 1 - 1)) ps)
+unfolding kept marksBy
+kept-after tolerance numbers [] h e = absurd (omega arith)
+kept-after tolerance [] (p ∷ ps) h e = absurd (omega arith)
+kept-after tolerance (v ∷ []) (p ∷ []) h e = refl
+kept-after tolerance (v ∷ w ∷ vs) (p ∷ []) h e = absurd (omega arith)
+kept-after tolerance (v ∷ vs) (p ∷ q ∷ ps) h e =
+    let one : 1 ≡ suc (suc (length ps)) - 1 - (suc (suc (length ps)) - 1 - 1) = omega arith in
+    ap (λ (j : ℕ). select (marksAfter tolerance (drop j (v ∷ vs))) (drop j (p ∷ q ∷ ps))) one
 
 module _ (tolerance : Float) (numbers : List Float) (ps : List PointI32) (d : PointI32) where
   module _ (k : ℕ) (x : Float) (i : k < length ps) where

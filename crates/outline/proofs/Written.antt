@@ -11,7 +11,7 @@ use lib.Seq.{take-suc-set, drop-set-lt, drop-drop, append-snoc}
 use Rattle.laws.specs.Lists.{over}
 use Rattle.point.specs.Points.{flat}
 use Rattle.point.specs.declared.PointI32.{PointI32}
-use Rattle.outline.specs.Written.{onto, Handed}
+use Rattle.outline.specs.Written.{onto, Handed, Left}
 
 -- ---- a value, and a point, put down before the rest is
 
@@ -44,13 +44,7 @@ pub onto-nil : {A : Type 0} (n : ℕ) (old : List A) → onto n [] old ≡ old
 unfolding onto
 onto-nil n old = take-append-drop n old
 
--- ---- so many points are written to `out`, which was `old`, and the rest completes the whole
-
-pub record Left (whole : List PointI32) (old : List ℤ) (kept : ℕ) (rest : List PointI32) (out : List ℤ) : Type 0 where
-  pub fits : length whole * 2 ≤ length old
-  pub long : length out ≡ length old
-  pub number : kept + length rest ≡ length whole
-  pub result : onto (kept * 2) (flat rest) out ≡ over (flat whole) old
+-- ---- how `Left` begins, goes on and ends
 
 pub begun : (whole : List PointI32) (old : List ℤ) → length whole * 2 ≤ length old → Left whole old 0 whole old
 unfolding onto

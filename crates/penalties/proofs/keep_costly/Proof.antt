@@ -49,21 +49,19 @@ module _ (list : List ℤ) where
             let same : second ≡ first = f ∙ sym e in
             rw (twice, g, same, put) (ended (taken (taken (begun (first ∷ first ∷ []) old room-for-two))))
 
-ruleset laws = (nothing, two-once, one-twice, needs)
-
 pub keep-costly-spec : {M : Type 1} → statement M
 keep-costly-spec =
     tie.close
     (tie.spec
-    (λ c. search laws)  -- returns
-    (λ c κs. search laws)  -- keep-many-requires
-    (λ c. search laws)  -- same-length
-    (λ c. search laws)  -- returns-2
-    (λ c κs. search laws)  -- point-at-requires
-    (λ c κs. search laws)  -- put-requires
-    (λ c. search laws)  -- same-length-2
-    (λ c. search laws)  -- returns-3
-    (λ c κs. search laws)  -- point-at-requires-2
-    (λ c κs. search laws)  -- put-requires-2
-    (λ c. search laws)  -- same-length-3
-    (λ c. search laws))  -- returns-4
+    (λ c. search nothing)  -- returns
+    (λ c κs. search needs)  -- keep-many-requires
+    (λ c. search needs)  -- same-length
+    (λ c. search needs)  -- returns-2
+    (λ c κs. tt)  -- point-at-requires
+    (λ c κs. tt)  -- put-requires
+    (λ c. search needs)  -- same-length-2
+    (λ c. search two-once)  -- returns-3
+    (λ c κs. tt)  -- point-at-requires-2
+    (λ c κs. tt)  -- put-requires-2
+    (λ c. search needs)  -- same-length-3
+    (λ c. search one-twice))  -- returns-4

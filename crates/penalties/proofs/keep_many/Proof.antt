@@ -11,9 +11,9 @@ use borrow.Author.Needs.{needs}
 use Rattle.point.specs.Points.{points}
 use Rattle.point.specs.declared.PointI32.{PointI32}
 use Rattle.outline.specs.Points.{count, pointAt}
-use Rattle.outline.specs.Written.{Handed}
+use Rattle.outline.specs.Written.{Handed, Left}
 use Rattle.outline.proofs.Flat.{length-points, points-at}
-use Rattle.outline.proofs.Written.{Left, begun-with, from-before, passed, taken, ended}
+use Rattle.outline.proofs.Written.{begun-with, from-before, passed, taken, ended}
 use Rattle.penalties.specs.Penalties.{at, tooCostly, limitPenalties}
 use Rattle.penalties.proofs.Costly.{costlyFrom, limit-many, costs-much, costs-less, costs-ended}
 use Rattle.penalties.proofs.keep_many.Statement.{statement}
@@ -87,22 +87,22 @@ keep-many-spec =
     (tie.spec
     Inv-loop
     μ-loop
-    (λ c κs. search needs)  -- point-at-requires
-    (λ c κs. search needs)  -- put-requires
-    (λ c. search (started, needs))  -- loop-holds
+    (λ c κs. tt)  -- point-at-requires
+    (λ c κs. tt)  -- put-requires
+    (λ c. (search needs, search needs, search needs, search started))  -- loop-holds
     (λ c κs. search needs)  -- past-delta-requires
     (λ c. search needs)  -- add-i
     (λ c. search needs)  -- sub-last
-    (λ c κs. search needs)  -- point-at-requires-2
-    (λ c κs. search needs)  -- put-requires-2
+    (λ c κs. tt)  -- point-at-requires-2
+    (λ c κs. tt)  -- put-requires-2
     (λ c. search needs)  -- add-kept
     (λ c. search needs)  -- loop-less
-    (λ c. search (kept-one, needs))  -- loop-again
+    (λ c. (search needs, search needs, search needs, search kept-one))  -- loop-again
     (λ c. search needs)  -- loop-less-2
     (λ c. (search needs, search needs, search needs, dropped-one _ _ _ _ _ _ (c .before .before .before .loop .inv .3) _ (c .before .past-delta .ensures) (c .before .before .loop-test .taken) (c .if1 .left)))  -- loop-again-2
     (λ c. search needs)  -- sub-point-at
-    (λ c κs. search needs)  -- point-at-requires-3
-    (λ c κs. search needs)  -- put-requires-3
+    (λ c κs. tt)  -- point-at-requires-3
+    (λ c κs. tt)  -- put-requires-3
     (λ c. search needs)  -- add-result
     (λ c. search needs)  -- same-length
-    (λ c. search (finished, all-written, needs)))  -- returns
+    (λ c. search (finished, all-written)))  -- returns

@@ -11,9 +11,9 @@ use borrow.Author.Needs.{needs}
 use Rattle.point.specs.Points.{points}
 use Rattle.point.specs.declared.PointI32.{PointI32}
 use Rattle.outline.specs.Points.{count, pointAt}
-use Rattle.outline.specs.Written.{Handed}
+use Rattle.outline.specs.Written.{Handed, Left}
 use Rattle.outline.proofs.Flat.{length-points, points-at}
-use Rattle.outline.proofs.Written.{Left, begun, begun-with, from-before, passed, taken, ended}
+use Rattle.outline.proofs.Written.{begun, begun-with, from-before, passed, taken, ended}
 use Rattle.passes.proofs.Within.{limit-x, limit-y}
 use Rattle.staircase.specs.Staircase.{stays, staircaseFrom, removeStaircase}
 use Rattle.staircase.proofs.Outward.{staircase-shorter, staircase-none, staircase-first, outward, inward, last-stays}
@@ -129,25 +129,25 @@ keep-outward-spec =
     (tie.spec
     Inv-loop
     μ-loop
-    (λ c. search (nothing, needs))  -- returns
-    (λ c κs. search needs)  -- point-at-requires
-    (λ c κs. search needs)  -- put-requires
+    (λ c. search nothing)  -- returns
+    (λ c κs. tt)  -- point-at-requires
+    (λ c κs. tt)  -- put-requires
     (λ c. search needs)  -- same-length
-    (λ c. search (one-only, needs))  -- returns-2
-    (λ c. search (started, needs))  -- loop-holds
+    (λ c. search one-only)  -- returns-2
+    (λ c. (search needs, search needs, search needs, search started))  -- loop-holds
     (λ c. search needs)  -- sub-loop
-    (λ c κs. search needs)  -- point-at-requires-2
+    (λ c κs. tt)  -- point-at-requires-2
     (λ c. search needs)  -- add-i
-    (λ c κs. search needs)  -- point-at-requires-3
-    (λ c κs. search (limit-x, limit-y, needs))  -- stays-requires
-    (λ c κs. search needs)  -- put-requires-2
+    (λ c κs. tt)  -- point-at-requires-3
+    (λ c κs. search (limit-x, limit-y))  -- stays-requires
+    (λ c κs. tt)  -- put-requires-2
     (λ c. search needs)  -- add-kept
     (λ c. search needs)  -- loop-less
-    (λ c. search (moved, kept-one, needs))  -- loop-again
+    (λ c. (search needs, search needs, search moved, search kept-one))  -- loop-again
     (λ c. search needs)  -- loop-less-2
-    (λ c. search (moved, dropped-one, needs))  -- loop-again-2
-    (λ c κs. search needs)  -- point-at-requires-4
-    (λ c κs. search needs)  -- put-requires-3
+    (λ c. (search needs, search needs, search moved, search dropped-one))  -- loop-again-2
+    (λ c κs. tt)  -- point-at-requires-4
+    (λ c κs. tt)  -- put-requires-3
     (λ c. search needs)  -- add-result
     (λ c. search needs)  -- same-length-2
-    (λ c. search (finished, all-written, needs)))  -- returns-3
+    (λ c. search (finished, all-written)))  -- returns-3

@@ -52,22 +52,20 @@ too-short : (points out : List ℤ) → length out < length points → record { 
 unfolding keptAllOf
 too-short points out h = rw (lt-ltb (length out) (length points) h)
 
-ruleset laws = (too-short, begun, stored, all-stored, needs)
-
 pub keep-all-spec : {M : Type 1} → statement M
 keep-all-spec =
     tie.close
     (tie.spec
     Inv-loop
     μ-loop
-    (λ c. search laws)  -- returns
-    (λ c. search laws)  -- loop-holds
-    (λ c. search laws)  -- mul-out
-    (λ c. search laws)  -- shared-slice-copy-out-out
-    (λ c. search laws)  -- mul-t8
-    (λ c. search laws)  -- slice-set-from-out
-    (λ c. search laws)  -- add-i
-    (λ c. search laws)  -- loop-less
-    (λ c. search laws)  -- loop-again
-    (λ c. search laws)  -- same-length
-    (λ c. search laws))  -- returns-2
+    (λ c. search too-short)  -- returns
+    (λ c. (search needs, search needs, search begun))  -- loop-holds
+    (λ c. search needs)  -- mul-out
+    (λ c. search needs)  -- shared-slice-copy-out-out
+    (λ c. search needs)  -- mul-t8
+    (λ c. search needs)  -- slice-set-from-out
+    (λ c. search needs)  -- add-i
+    (λ c. search needs)  -- loop-less
+    (λ c. (search needs, search needs, search stored))  -- loop-again
+    (λ c. search needs)  -- same-length
+    (λ c. search all-stored))  -- returns-2

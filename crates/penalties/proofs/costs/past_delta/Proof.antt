@@ -73,24 +73,22 @@ module _ (list : List ℤ) (from to : ℕ) where
     unfolding rest
     ended h = sym (none-left (costOf list from to) to k h) ∙ inv
 
-ruleset laws = (limit-x, limit-y, needs)
-
 pub past-delta-spec : {M : Type 1} → statement M
 past-delta-spec =
     tie.close
     (tie.spec
     Inv-loop
     μ-loop
-    (λ c κs. search laws)  -- point-at-requires
-    (λ c κs. search laws)  -- point-at-requires-2
-    (λ c κs. search laws)  -- side-requires
-    (λ c. search laws)  -- add-k
+    (λ c κs. tt)  -- point-at-requires
+    (λ c κs. tt)  -- point-at-requires-2
+    (λ c κs. search (limit-x, limit-y, needs))  -- side-requires
+    (λ c. search needs)  -- add-k
     (λ c. (search needs, search needs, started _ _ _))  -- loop-holds
-    (λ c κs. search laws)  -- point-at-requires-3
-    (λ c. search laws)  -- add-k-2
-    (λ c κs. search laws)  -- evaluate-penalty-requires
-    (λ c κs. search laws)  -- reaches-requires
-    (λ c. search (costs, worked-out, needs))  -- returns
-    (λ c. search laws)  -- loop-less
-    (λ c. search (goes-on, worked-out, needs))  -- loop-again
-    (λ c. search (ended, needs)))  -- returns-2
+    (λ c κs. tt)  -- point-at-requires-3
+    (λ c. search needs)  -- add-k-2
+    (λ c κs. search (limit-x, limit-y, needs))  -- evaluate-penalty-requires
+    (λ c κs. tt)  -- reaches-requires
+    (λ c. search (costs, worked-out))  -- returns
+    (λ c. search needs)  -- loop-less
+    (λ c. (search needs, search needs, search (goes-on, worked-out)))  -- loop-again
+    (λ c. search ended))  -- returns-2

@@ -16,9 +16,9 @@ use Rattle.point.specs.declared.Answer.{Answer}
 use Rattle.point.specs.declared.PointI32.{PointI32}
 use Rattle.point.proofs.Claims.{whole-points, coordinates-fit}
 use Rattle.outline.specs.Points.{count, pointAt}
-use Rattle.outline.specs.Written.{onto, Handed}
+use Rattle.outline.specs.Written.{onto, Handed, Left}
 use Rattle.outline.proofs.Flat.{length-points, flat-points, points-at}
-use Rattle.outline.proofs.Written.{Left, begun-with, from-before, passed, taken, rest-fits, completed}
+use Rattle.outline.proofs.Written.{begun-with, from-before, passed, taken, rest-fits, completed}
 use Rattle.keeping.specs.Calls.{Points, keptAllOf}
 use Rattle.keeping.proofs.Claims.{all-handed}
 use Rattle.radial_dist.specs.Distance.{sqDist}
@@ -120,7 +120,7 @@ dropped-one : (p prev : PointI32) (d : Float) → d ≡ sqDist p prev → (list 
 dropped-one p prev d f list tolerance old kept k out l h e t = passed l (is-near list tolerance old kept k out prev l p d h e f t)
 
 returns : tie.Need-returns Inv-loop μ-loop
-returns c = search (copied, needs)
+returns c = search copied
 
 pub keep-far-spec : {M : Type 1} → statement M
 keep-far-spec =
@@ -133,18 +133,18 @@ keep-far-spec =
     returns
     (λ c κs. tt)  -- point-at-requires
     (λ c κs. tt)  -- put-requires
-    (λ c. search (limit-x, limit-y, started, needs))  -- loop-holds
+    (λ c. (search needs, search limit-x, search limit-y, search started))  -- loop-holds
     (λ c κs. tt)  -- point-at-requires-2
     (λ c. search needs)  -- add-k
-    (λ c κs. search (limit-x, limit-y, needs))  -- get-sq-dist-requires
+    (λ c κs. (search limit-x, search limit-y, search needs, search needs))  -- get-sq-dist-requires
     (λ c κs. tt)  -- put-requires-2
     (λ c. search needs)  -- add-kept
     (λ c. search needs)  -- loop-less
-    (λ c. search (limit-x, limit-y, kept-one, needs))  -- loop-again
+    (λ c. (search needs, search limit-x, search limit-y, search kept-one))  -- loop-again
     (λ c. search needs)  -- loop-less-2
-    (λ c. search (dropped-one _ _ _ (c .before .get-sq-dist .ensures), needs))  -- loop-again-2
+    (λ c. (search needs, search needs, search needs, search (dropped-one _ _ _ (c .before .get-sq-dist .ensures))))  -- loop-again-2
     (λ c. search needs)  -- sub-point-at
     (λ c κs. tt)  -- point-at-requires-3
-    (λ c κs. search (last-fits, needs))  -- with-last-requires
+    (λ c κs. search last-fits)  -- with-last-requires
     (λ c. search needs)  -- same-length-2
-    (λ c. search (finished, needs)))  -- returns-2
+    (λ c. search finished))  -- returns-2
