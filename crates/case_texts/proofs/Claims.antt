@@ -5,18 +5,14 @@ use mathlib.Core.Path.{_≡_, sym, ap, ap₂, _∙_}
 use denote.Ref.{now}
 use Rattle.texts.specs.Put.{Outcome}
 use Rattle.texts.specs.Text.{naturalText, decimalText}
-use Rattle.list_texts.specs.Texts.{listText, doubleText, doublesText, pairsText}
 use Rattle.point.specs.Refusals.{numberOf, countOf}
 use Rattle.point.specs.declared.Answer.{Answer}
-use Rattle.case_texts.specs.Spaced.{choiceText, spaced, counted, ended}
+use Rattle.case_texts.specs.Spaced.{choiceText, doubleText, spaced, counted, ended}
 use Rattle.case_texts.proofs.values.put_word.Reads as put_word
 use Rattle.case_texts.proofs.values.put_choice.Reads as put_choice
 use Rattle.case_texts.proofs.values.put_natural.Reads as put_natural
 use Rattle.case_texts.proofs.values.put_integer.Reads as put_integer
 use Rattle.case_texts.proofs.values.put_double.Reads as put_double
-use Rattle.case_texts.proofs.values.put_integers.Reads as put_integers
-use Rattle.case_texts.proofs.values.put_doubles.Reads as put_doubles
-use Rattle.case_texts.proofs.values.put_bytes.Reads as put_bytes
 use Rattle.case_texts.proofs.values.put_count.Reads as put_count
 use Rattle.case_texts.proofs.values.put_answer.Reads as put_answer
 use Rattle.case_texts.proofs.line.end_line.Reads as end_line
@@ -52,21 +48,6 @@ pub put-double-determined : (κs : _) (a a′ : _) (r r′ : ℕ) (s s′ : _) �
     a .0 ≡ a′ .0 → now (a .1 .0) ≡ now (a′ .1 .0) → a .1 .1 .0 ≡ a′ .1 .1 .0 →
     _≡_ {A = Outcome} (record { next = r; out = now (s .1 .0) }) (record { next = r′; out = now (s′ .1 .0) })
 put-double-determined κs a a′ r r′ s s′ p q value out at = spaced-same _ _ _ _ _ _ _ _ p q (ap doubleText value) out at
-
-pub put-integers-determined : (κs : _) (a a′ : _) (r r′ : ℕ) (s s′ : _) → put_integers.Post κs a r s → put_integers.Post κs a′ r′ s′ →
-    now (a .0) ≡ now (a′ .0) → now (a .1 .0) ≡ now (a′ .1 .0) → a .1 .1 .0 ≡ a′ .1 .1 .0 →
-    _≡_ {A = Outcome} (record { next = r; out = now (s .1 .0) }) (record { next = r′; out = now (s′ .1 .0) })
-put-integers-determined κs a a′ r r′ s s′ p q value out at = spaced-same _ _ _ _ _ _ _ _ p q (ap listText value) out at
-
-pub put-doubles-determined : (κs : _) (a a′ : _) (r r′ : ℕ) (s s′ : _) → put_doubles.Post κs a r s → put_doubles.Post κs a′ r′ s′ →
-    now (a .0) ≡ now (a′ .0) → now (a .1 .0) ≡ now (a′ .1 .0) → a .1 .1 .0 ≡ a′ .1 .1 .0 →
-    _≡_ {A = Outcome} (record { next = r; out = now (s .1 .0) }) (record { next = r′; out = now (s′ .1 .0) })
-put-doubles-determined κs a a′ r r′ s s′ p q value out at = spaced-same _ _ _ _ _ _ _ _ p q (ap doublesText value) out at
-
-pub put-bytes-determined : (κs : _) (a a′ : _) (r r′ : ℕ) (s s′ : _) → put_bytes.Post κs a r s → put_bytes.Post κs a′ r′ s′ →
-    now (a .0) ≡ now (a′ .0) → now (a .1 .0) ≡ now (a′ .1 .0) → a .1 .1 .0 ≡ a′ .1 .1 .0 →
-    _≡_ {A = Outcome} (record { next = r; out = now (s .1 .0) }) (record { next = r′; out = now (s′ .1 .0) })
-put-bytes-determined κs a a′ r r′ s s′ p q value out at = spaced-same _ _ _ _ _ _ _ _ p q (ap pairsText value) out at
 
 pub put-count-determined : (κs : _) (a a′ : _) (r r′ : ℕ) (s s′ : _) → put_count.Post κs a r s → put_count.Post κs a′ r′ s′ →
     a .0 ≡ a′ .0 → a .1 .0 ≡ a′ .1 .0 → now (a .1 .1 .0) ≡ now (a′ .1 .1 .0) → a .1 .1 .1 .0 ≡ a′ .1 .1 .1 .0 →

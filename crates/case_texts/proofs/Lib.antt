@@ -1,2 +1,3 @@
+pub mod Widened
 pub mod Then
 pub mod Claims

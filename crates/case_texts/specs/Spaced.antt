@@ -3,14 +3,19 @@ use Prim.Native.Nat.{ℕ, _-_}
 use mathlib.Core.Bool.{Bool, _||_}
 use mathlib.Core.List.{List, [], _∷_}
 use lib.Dec.{ltb, leb}
+use lib.Ieee.{Float, binary64, toBits}
 use lib.ListN.{length, set}
 use Rattle.laws.specs.If.{if_then_else_}
 use Rattle.texts.specs.Put.{Outcome, put}
-use Rattle.texts.specs.Text.{naturalText}
+use Rattle.texts.specs.Text.{naturalText, hexText}
 
 -- `1` for what is set, and `0` for what is not
 abbrev pub choiceText : Bool → List ℕ
 choiceText set = if set then 49 ∷ [] else 48 ∷ []
+
+-- a double is the 16 hexadecimal digits of its pattern
+abbrev pub doubleText : Float → List ℕ
+doubleText x = hexText 16 (toBits binary64 x)
 
 -- a text, and a space behind it, each where it fits
 abbrev pub spaced : List ℕ → List ℕ → ℕ → Outcome

@@ -7,12 +7,11 @@ ghost use Rattle.case_texts.specs.Spaced.{ended};
 pub fn end_line(out: &mut [u8], from: usize, to: usize) -> usize
     ensures { λ r. ⌜ record { next = r; out = now (out .exit) } ≡ ended (now (out .entry)) from to ⌝ }
 {
-    if to <= from {
-        return texts::put_bytes(b"bad line\n", out, from);
+    if from < to {
+        if to <= out.len() {
+            out[to - 1] = b'\n';
+            return to;
+        }
     }
-    if out.len() < to {
-        return texts::put_bytes(b"bad line\n", out, from);
-    }
-    out[to - 1] = b'\n';
-    to
+    texts::put_bytes(b"bad line\n", out, from)
 }

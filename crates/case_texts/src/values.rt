@@ -1,9 +1,8 @@
-// Values, each with a space behind it. A list of none is `-`.
+// Values, each with a space behind it.
 ghost use mathlib.Core.Path.{_≡_};
 ghost use Rattle.texts.specs.Text.{naturalText, decimalText};
-ghost use Rattle.list_texts.specs.Texts.{listText, doubleText, doublesText, pairsText};
 ghost use Rattle.point.specs.Refusals.{numberOf, countOf};
-ghost use Rattle.case_texts.specs.Spaced.{choiceText, spaced, counted};
+ghost use Rattle.case_texts.specs.Spaced.{choiceText, doubleText, spaced, counted};
 use point::Answer;
 
 // A word as it stands.
@@ -18,10 +17,7 @@ pub fn put_word(word: &[u8], out: &mut [u8], at: usize) -> usize
 pub fn put_choice(set: bool, out: &mut [u8], at: usize) -> usize
     ensures { λ r. ⌜ record { next = r; out = now (out .exit) } ≡ spaced (choiceText set) (now (out .entry)) at ⌝ }
 {
-    if set {
-        return put_word(b"1", out, at);
-    }
-    put_word(b"0", out, at)
+    put_natural(set as u64, out, at)
 }
 
 // A number from zero on.
@@ -36,7 +32,7 @@ pub fn put_natural(n: u64, out: &mut [u8], at: usize) -> usize
 pub fn put_integer(n: i32, out: &mut [u8], at: usize) -> usize
     ensures { λ r. ⌜ record { next = r; out = now (out .exit) } ≡ spaced (decimalText n) (now (out .entry)) at ⌝ }
 {
-    let end = list_texts::put_integer(n, out, at);
+    let end = texts::put_decimal(n as i64, out, at);
     texts::put_byte(b' ', out, end)
 }
 
@@ -44,31 +40,7 @@ pub fn put_integer(n: i32, out: &mut [u8], at: usize) -> usize
 pub fn put_double(x: f64, out: &mut [u8], at: usize) -> usize
     ensures { λ r. ⌜ record { next = r; out = now (out .exit) } ≡ spaced (doubleText x) (now (out .entry)) at ⌝ }
 {
-    let end = list_texts::put_double(x, out, at);
-    texts::put_byte(b' ', out, end)
-}
-
-// Numbers, a comma between each two.
-pub fn put_integers(values: &[i32], out: &mut [u8], at: usize) -> usize
-    ensures { λ r. ⌜ record { next = r; out = now (out .exit) } ≡ spaced (listText (now (values .entry))) (now (out .entry)) at ⌝ }
-{
-    let end = list_texts::put_list(values, out, at);
-    texts::put_byte(b' ', out, end)
-}
-
-// Doubles, a comma between each two.
-pub fn put_doubles(values: &[f64], out: &mut [u8], at: usize) -> usize
-    ensures { λ r. ⌜ record { next = r; out = now (out .exit) } ≡ spaced (doublesText (now (values .entry))) (now (out .entry)) at ⌝ }
-{
-    let end = list_texts::put_doubles(values, out, at);
-    texts::put_byte(b' ', out, end)
-}
-
-// Bytes, each as two hexadecimal digits.
-pub fn put_bytes(values: &[u8], out: &mut [u8], at: usize) -> usize
-    ensures { λ r. ⌜ record { next = r; out = now (out .exit) } ≡ spaced (pairsText (now (values .entry))) (now (out .entry)) at ⌝ }
-{
-    let end = list_texts::put_pairs(values, out, at);
+    let end = texts::put_hex(sqrt::to_bits(x), 16, out, at);
     texts::put_byte(b' ', out, end)
 }
 

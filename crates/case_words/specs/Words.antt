@@ -5,9 +5,9 @@ use mathlib.Core.List.{List}
 use lib.Dec.{eqb}
 use lib.ListN.{length, getD}
 use Rattle.laws.specs.If.{if_then_else_}
-use Rattle.digits.specs.Numeral.{naturalOf}
-use Rattle.digits.specs.declared.natural.Natural.{Natural}
-use Rattle.digits.specs.declared.natural.Natural.the-variants as Natural
+use Rattle.decimals.specs.Decimal.{naturalOf}
+use Rattle.decimals.specs.declared.natural.Natural.{Natural}
+use Rattle.decimals.specs.declared.natural.Natural.the-variants as Natural
 
 -- `0` and `1` say 0 and 1, anything else says 2
 unfoldable pub choiceOf : List ℕ → ℕ

@@ -3,7 +3,7 @@
 // Nothing fails: a word that is of another form is answered by a number that no such word says.
 ghost use mathlib.Core.Path.{_≡_};
 ghost use Rattle.case_words.specs.Words.{choiceOf, roomOf};
-use digits::Natural;
+use decimals::Natural;
 
 // 0 or 1, and 2 for what is neither.
 pub fn read_choice(word: &[u8]) -> u8
@@ -26,7 +26,7 @@ pub fn read_choice(word: &[u8]) -> u8
 pub fn read_room(word: &[u8]) -> usize
     ensures { λ r. ⌜ r ≡ roomOf (now (word .entry)) ⌝ }
 {
-    let Natural::Is(n) = digits::read_natural(word) else {
+    let Natural::Is(n) = decimals::read_natural(word) else {
         return usize::MAX;
     };
     n as usize

@@ -3,19 +3,19 @@
 // the point. Refused, the area and the point are 0. BYTES is `-` for none. Anything else is a bad line.
 use chart::Chart;
 use chart::Start;
-use digits::Integer;
-use digits::Natural;
-use lists::Read;
+use decimals::Integer;
+use decimals::Natural;
+use pairs::Read;
 
 // The most bytes that are read.
 const MOST: usize = 65536;
 
 // Puts the answer to the case of a line at a place of `out`, and answers the place behind it.
 pub fn answer(line: &[u8], out: &mut [u8], at: usize) -> usize {
-    let Natural::Is(width) = digits::read_natural(lines::word(line, 1)) else {
+    let Natural::Is(width) = decimals::read_natural(lines::word(line, 1)) else {
         return at;
     };
-    let Natural::Is(height) = digits::read_natural(lines::word(line, 2)) else {
+    let Natural::Is(height) = decimals::read_natural(lines::word(line, 2)) else {
         return at;
     };
     let chart = Chart {
@@ -23,7 +23,7 @@ pub fn answer(line: &[u8], out: &mut [u8], at: usize) -> usize {
         height: height as usize,
     };
     let mut bytes = [0u8; MOST];
-    let Read::Is(n) = lists::read_pairs(lines::word(line, 3), &mut bytes) else {
+    let Read::Is(n) = pairs::read_pairs(lines::word(line, 3), &mut bytes) else {
         return at;
     };
     call(line, chart, &bytes[0..n], out, at)
@@ -41,10 +41,10 @@ fn call(line: &[u8], chart: Chart, pixels: &[u8], out: &mut [u8], at: usize) -> 
         return start(chart::first_start(chart, pixels), out, at);
     }
     if words == 6 && check::same(name, b"pixel") {
-        let Integer::Is(x) = digits::read_integer(lines::word(line, 4)) else {
+        let Integer::Is(x) = decimals::read_integer(lines::word(line, 4)) else {
             return at;
         };
-        let Integer::Is(y) = digits::read_integer(lines::word(line, 5)) else {
+        let Integer::Is(y) = decimals::read_integer(lines::word(line, 5)) else {
             return at;
         };
         return case_texts::put_choice(chart::pixel(chart, pixels, x, y), out, at);

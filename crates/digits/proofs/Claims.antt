@@ -3,13 +3,9 @@ use Prim.Native.Nat.{ℕ}
 use mathlib.Core.Path.{_≡_, sym, ap, _∙_}
 use denote.Ref.{now}
 use Rattle.digits.specs.Digit.{digitOf}
-use Rattle.digits.specs.Numeral.{integerOf, naturalOf, hexOf, patternOf}
-use Rattle.digits.specs.declared.integer.Integer.{Integer}
+use Rattle.digits.specs.Numeral.{hexOf, patternOf}
 use Rattle.digits.specs.declared.read.Hex.{Hex}
-use Rattle.digits.specs.declared.natural.Natural.{Natural}
 use Rattle.digits.proofs.glyphs.digit.Reads as digit
-use Rattle.digits.proofs.integer.read_integer.Reads as read_integer
-use Rattle.digits.proofs.natural.read_natural.Reads as read_natural
 use Rattle.digits.proofs.read.read_hex.Reads as read_hex
 use Rattle.digits.proofs.read.read_pattern.Reads as read_pattern
 
@@ -17,14 +13,6 @@ use Rattle.digits.proofs.read.read_pattern.Reads as read_pattern
 -- `Post` is the contract itself, as Rattle reads it off the source, at arguments `a`, a result `r` and parameters at exit `s`.
 pub digit-determined : (κs : _) (a a′ : _) (r r′ : ℕ) (s s′ : _) → digit.Post κs a r s → digit.Post κs a′ r′ s′ → a .0 ≡ a′ .0 → r ≡ r′
 digit-determined κs a a′ r r′ s s′ p q byte = p ∙ ap digitOf byte ∙ sym q
-
-pub read-integer-determined : (κs : _) (a a′ : _) (r r′ : Integer) (s s′ : _) → read_integer.Post κs a r s →
-    read_integer.Post κs a′ r′ s′ → now (a .0) ≡ now (a′ .0) → r ≡ r′
-read-integer-determined κs a a′ r r′ s s′ p q word = p ∙ ap integerOf word ∙ sym q
-
-pub read-natural-determined : (κs : _) (a a′ : _) (r r′ : Natural) (s s′ : _) → read_natural.Post κs a r s →
-    read_natural.Post κs a′ r′ s′ → now (a .0) ≡ now (a′ .0) → r ≡ r′
-read-natural-determined κs a a′ r r′ s s′ p q word = p ∙ ap naturalOf word ∙ sym q
 
 pub read-hex-determined : (κs : _) (a a′ : _) (r r′ : Hex) (s s′ : _) → read_hex.Post κs a r s → read_hex.Post κs a′ r′ s′ →
     now (a .0) ≡ now (a′ .0) → r ≡ r′

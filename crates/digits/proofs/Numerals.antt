@@ -1,9 +1,8 @@
 -- Digits read one after the other: what those from a place on say decides what all say. Assumes nothing.
-use Prim.Native.Nat.{ℕ, _+_, _*_, _≤_, _<_}
-use mathlib.Core.List.{List, [], _∷_}
+use Prim.Native.Nat.{ℕ, _+_, _*_, _<_}
+use mathlib.Core.List.{List}
 use mathlib.Core.Path.{_≡_}
 use native.Mathlib.Numerals.{add-one}
-use native.Mathlib.Omega.{arith}
 use lib.ListN.{length, drop, getD}
 use lib.Seq.{drop-cons}
 use borrow.Author.Tests.{lt-ltb}
@@ -21,9 +20,3 @@ module _ (word : List ℕ) (base i : ℕ) where
       value base 0 word ≡ value base (n * base + d) (drop (i + 1) word)
   unfolding value
   said n d v h e = rw (v, add-one, drop-cons word i 0, e)
-
--- more digits say no less
-pub value-grows : (n : ℕ) (word : List ℕ) → n ≤ value 10 n word
-unfolding value
-value-grows n [] = omega arith
-value-grows n (x ∷ word) = omega (arith, value-grows (n * 10 + digitOf x) word)

@@ -1,17 +1,11 @@
-// Numbers as text, read from a word.
+// A hexadecimal digit, and numbers of such digits, read from a word.
 //
-// Nothing fails: what is no number is answered `Not`. What writes numbers stands in `texts`. No call takes more stack than its return address, 8 bytes (measured on the x86-64
-// code).
+// Nothing fails: what is no number is answered `Not`. Decimals are read in `decimals`; what writes numbers stands in `texts`. No call takes more stack than its return
+// address, 8 bytes (measured on the x86-64 code).
 mod glyphs;
-mod integer;
-mod natural;
 mod read;
 
 pub use glyphs::digit;
-pub use integer::Integer;
-pub use integer::read_integer;
-pub use natural::Natural;
-pub use natural::read_natural;
 pub use read::Hex;
 pub use read::read_hex;
 pub use read::read_pattern;

@@ -10,10 +10,11 @@ use lib.ListN.{length, take, drop, replicate, length-replicate}
 use lib.Seq.{take-append-seam}
 use borrow.Author.Tests.{leb-true, leb-false, lt-ltb}
 use Rattle.laws.specs.If.{if_then_else_}
-use Rattle.lists.specs.Lists as Lists
-use Rattle.lists.specs.Lists.{bytesOf, readInto}
-use Rattle.lists.specs.declared.Read.{Read}
-use Rattle.lists.specs.declared.Read.the-variants as Read
+use Rattle.pairs.specs.Into as Into
+use Rattle.pairs.specs.Into.{readInto}
+use Rattle.pairs.specs.Pairs.{bytesOf}
+use Rattle.pairs.specs.declared.Read.{Read}
+use Rattle.pairs.specs.declared.Read.the-variants as Read
 use Rattle.texts.specs.Put.{Outcome, put}
 use Rattle.requests.specs.Frame.{requestIn}
 use Rattle.frames.specs.Reply.{badReply, replyTo, bytesReply, answerTo}
@@ -27,7 +28,7 @@ held (Read.Is n) = n
 held Read.Not = 0
 
 -- of some bytes, by whether they fit an array of so many
-abbrev given : List ℕ → List ℕ → Bool → Lists.Outcome ℕ
+abbrev given : List ℕ → List ℕ → Bool → Into.Outcome ℕ
 given xs array t =
     if t then record { answer = Read.Is (length xs); to = xs ++ drop (length xs) array } else record { answer = Read.Not; to = array }
 
@@ -35,16 +36,16 @@ module _ (to array : List ℕ) (size : length array ≡ 16384) where
   -- all were read: they fit, and stand at the start of the array
   all-read : (n : ℕ) (b : Option (List ℕ)) → record { answer = Read.Is n; to = to } ≡ readInto b array →
       (n ≤ 16384) × (b ≡ some (take n to))
-  all-read n none e = let z : _≡_ {A = ℕ} 0 1 = ap (λ (o : Lists.Outcome ℕ). isNot (o .answer)) e in absurd (omega arith)
+  all-read n none e = let z : _≡_ {A = ℕ} 0 1 = ap (λ (o : Into.Outcome ℕ). isNot (o .answer)) e in absurd (omega arith)
   all-read n (some xs) e = by (leb (length xs) (length array)) refl e
     where
       by : (t : Bool) → leb (length xs) (length array) ≡ t → record { answer = Read.Is n; to = to } ≡ given xs array t →
           (n ≤ 16384) × (some xs ≡ some (take n to))
       by true h e =
-          let k : n ≡ length xs = ap (λ (o : Lists.Outcome ℕ). held (o .answer)) e in
-          let l : to ≡ xs ++ drop (length xs) array = ap (λ (o : Lists.Outcome ℕ). o .to) e in
+          let k : n ≡ length xs = ap (λ (o : Into.Outcome ℕ). held (o .answer)) e in
+          let l : to ≡ xs ++ drop (length xs) array = ap (λ (o : Into.Outcome ℕ). o .to) e in
           (omega (arith, leb-true (length xs) (length array) h), ap some (sym (rw (k, l) (take-append-seam xs (drop (length xs) array)))))
-      by false h e = let z : _≡_ {A = ℕ} 0 1 = ap (λ (o : Lists.Outcome ℕ). isNot (o .answer)) e in absurd (omega arith)
+      by false h e = let z : _≡_ {A = ℕ} 0 1 = ap (λ (o : Into.Outcome ℕ). isNot (o .answer)) e in absurd (omega arith)
 
   too-many : (xs : List ℕ) → 16384 < length xs → bytesReply (some xs) ≡ badReply
   unfolding bytesReply
@@ -58,7 +59,7 @@ module _ (to array : List ℕ) (size : length array ≡ 16384) where
     where
       by : (t : Bool) → leb (length xs) (length array) ≡ t → record { answer = Read.Not; to = to } ≡ given xs array t →
           bytesReply (some xs) ≡ badReply
-      by true h e = let z : _≡_ {A = ℕ} 1 0 = ap (λ (o : Lists.Outcome ℕ). isNot (o .answer)) e in absurd (omega arith)
+      by true h e = let z : _≡_ {A = ℕ} 1 0 = ap (λ (o : Into.Outcome ℕ). isNot (o .answer)) e in absurd (omega arith)
       by false h e = too-many xs (omega (arith, leb-false (length xs) (length array) h))
 
 zeros : length {A = ℕ} (replicate 16384 0) ≡ 16384

@@ -7,7 +7,7 @@ use native.Mathlib.Omega.{arith}
 use lib.ListN.{length}
 use denote.Ref.{now}
 use Rattle.texts.specs.Put.{Outcome, put}
-use Rattle.lists.specs.Lists.{bytesOf}
+use Rattle.pairs.specs.Pairs.{bytesOf}
 use Rattle.requests.specs.Frame.{Request, walk, simplify, reduce, numbers, no-frame, requestIn}
 use Rattle.walk_reply.proofs.Claims.{walk-short}
 use Rattle.simplify_reply.proofs.Claims.{simplified-short}

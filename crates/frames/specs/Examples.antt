@@ -7,7 +7,7 @@ use Rattle.bitmap.specs.Pixels.{badChart, pixelAt}
 use Rattle.walks.specs.Walk.{walked}
 use Rattle.texts.specs.Text.{lowDigits}
 use Rattle.digits.specs.Digit.{digitOf}
-use Rattle.lists.specs.Lists.{pairOf}
+use Rattle.pairs.specs.Pairs.{pairOf}
 use Rattle.frames.specs.Reply.{answerTo}
 
 -- `0101000100010000000080` gives `810000050000000000010000000100010000000100000000`

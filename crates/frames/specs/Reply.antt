@@ -7,7 +7,7 @@ use lib.Ieee.{Float, binary64, ofInt, div}
 use Rattle.walks.specs.Walk.{walked}
 use Rattle.simplify.specs.Calls.{simplifyOf}
 use Rattle.reduce.specs.Calls.{reduceOf, numberedOf}
-use Rattle.lists.specs.Lists.{bytesOf}
+use Rattle.pairs.specs.Pairs.{bytesOf}
 use Rattle.replies.specs.Reply.{pointsText, numbersText}
 use Rattle.replies.specs.Room.{room, marks, numberRoom}
 use Rattle.walk_reply.specs.Reply.{walkReply}

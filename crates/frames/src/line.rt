@@ -3,7 +3,7 @@ ghost use mathlib.Core.Path.{_≡_};
 ghost use Rattle.texts.specs.Put.{put};
 ghost use Rattle.requests.specs.Frame.{requestIn};
 ghost use Rattle.frames.specs.Reply.{answerTo, replyTo, badReply};
-use lists::Read;
+use pairs::Read;
 use requests::Asked;
 
 // The most bytes of a frame, and the most values of its points.
@@ -17,7 +17,7 @@ pub fn answer(line: &[u8], out: &mut [u8], at: usize) -> usize
     ensures { λ r. ⌜ record { next = r; out = now (out .exit) } ≡ put (answerTo (now (line .entry))) (now (out .entry)) at ⌝ }
 {
     let mut frame = [0u8; MOST];
-    match lists::read_bytes(line, &mut frame) {
+    match pairs::read_bytes(line, &mut frame) {
         Read::Is(n) => reply(&frame[0..n], out, at),
         Read::Not => bad(out, at),
     }

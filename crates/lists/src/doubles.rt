@@ -1,12 +1,15 @@
 // A list of doubles, each the 16 hexadecimal digits of its pattern.
 ghost use mathlib.Core.Path.{_≡_};
-ghost use lib.ListN.{length};
-ghost use Rattle.lists.specs.Lists.{double, itemsOf, listOf, countOf, over, Room, readInto};
-use crate::Read;
-use crate::is_dash;
+ghost use Prim.Native.Nat.{_-_, _≤_};
+ghost use lib.ListN.{length, take, drop};
+ghost use Rattle.digits.specs.Numeral.{patternOf};
+ghost use Rattle.pairs.specs.Into.{countOf, over, Room, readInto};
+ghost use Rattle.lists.specs.Lists.{double, itemsOf, listOf};
 use crate::items::item_end;
 use digits::Hex;
 use digits::read_pattern;
+use pairs::Read;
+use pairs::is_dash;
 
 // Reads a list, whose values `sep` parts, to the start of `to`, and answers how many values it has. Where one is no pattern, or
 // there is no room for all, it writes nothing.
@@ -31,35 +34,38 @@ fn count_doubles(word: &[u8], sep: u8) -> Read
 {
     let mut n = 0;
     let mut at = 0;
-    loop {
+    while at <= word.len() {
         let end = item_end(word, sep, at);
-        let Hex::Is(_value) = read_pattern(&word[at..end]) else {
+        let Hex::Is(_bits) = pattern_in(word, at, end) else {
             return Read::Not;
         };
         n += 1;
-        if end == word.len() {
-            return Read::Is(n);
-        }
         at = end + 1;
     }
+    Read::Is(n)
 }
 
 fn write_doubles(word: &[u8], sep: u8, to: &mut [f64])
     requires { ⌜ Room (itemsOf double sep (now word)) 0 (length (now to)) ⌝ }
     ensures { λ _. ⌜ now (to .exit) ≡ over (itemsOf double sep (now (word .entry))) (now (to .entry)) ⌝ }
 {
-    let mut n = 0;
+    let mut n = 0usize;
     let mut at = 0;
-    loop {
+    while at <= word.len() {
         let end = item_end(word, sep, at);
-        let Hex::Is(value) = read_pattern(&word[at..end]) else {
+        let Hex::Is(bits) = pattern_in(word, at, end) else {
             return;
         };
-        to[n] = sqrt::from_bits(value);
+        to[n] = sqrt::from_bits(bits);
         n += 1;
-        if end == word.len() {
-            return;
-        }
         at = end + 1;
     }
+}
+
+// What the bytes from one place to another say.
+fn pattern_in(word: &[u8], from: usize, end: usize) -> Hex
+    requires { ⌜ (from ≤ end) × (end ≤ length (now word)) ⌝ }
+    ensures { λ r. ⌜ r ≡ patternOf (take (end - from) (drop from (now (word .entry)))) ⌝ }
+{
+    read_pattern(&word[from..end])
 }

@@ -1,13 +1,15 @@
 // A list of decimals that 32 bits hold.
 ghost use mathlib.Core.Path.{_≡_};
-ghost use Prim.Native.Nat.{_<_};
-ghost use lib.ListN.{length, set};
-ghost use Rattle.lists.specs.Lists.{integer, itemsOf, listOf, countOf, over, Room, readInto};
-use crate::Read;
-use crate::is_dash;
+ghost use Prim.Native.Nat.{_-_, _≤_};
+ghost use lib.ListN.{length, take, drop};
+ghost use Rattle.decimals.specs.Decimal.{integerOf};
+ghost use Rattle.pairs.specs.Into.{countOf, over, Room, readInto};
+ghost use Rattle.lists.specs.Lists.{integer, itemsOf, listOf};
 use crate::items::item_end;
-use digits::Integer;
-use digits::read_integer;
+use decimals::Integer;
+use decimals::read_integer;
+use pairs::Read;
+use pairs::is_dash;
 
 // Reads a list, whose values `sep` parts, to the start of `to`, and answers how many values it has. Where one is no number, or
 // there is no room for all, it writes nothing.
@@ -32,42 +34,38 @@ fn count_integers(word: &[u8], sep: u8) -> Read
 {
     let mut n = 0;
     let mut at = 0;
-    loop {
+    while at <= word.len() {
         let end = item_end(word, sep, at);
-        let Integer::Is(_value) = read_integer(&word[at..end]) else {
+        let Integer::Is(_value) = integer_in(word, at, end) else {
             return Read::Not;
         };
         n += 1;
-        if end == word.len() {
-            return Read::Is(n);
-        }
         at = end + 1;
     }
+    Read::Is(n)
 }
 
 fn write_integers(word: &[u8], sep: u8, to: &mut [i32])
     requires { ⌜ Room (itemsOf integer sep (now word)) 0 (length (now to)) ⌝ }
     ensures { λ _. ⌜ now (to .exit) ≡ over (itemsOf integer sep (now (word .entry))) (now (to .entry)) ⌝ }
 {
-    let mut n = 0;
+    let mut n = 0usize;
     let mut at = 0;
-    loop {
+    while at <= word.len() {
         let end = item_end(word, sep, at);
-        let Integer::Is(value) = read_integer(&word[at..end]) else {
+        let Integer::Is(value) = integer_in(word, at, end) else {
             return;
         };
-        store(to, n, value);
+        to[n] = value;
         n += 1;
-        if end == word.len() {
-            return;
-        }
         at = end + 1;
     }
 }
 
-fn store(to: &mut [i32], n: usize, value: i32)
-    requires { ⌜ n < length (now to) ⌝ }
-    ensures { λ _. ⌜ now (to .exit) ≡ set (now (to .entry)) n value ⌝ }
+// What the bytes from one place to another say.
+fn integer_in(word: &[u8], from: usize, end: usize) -> Integer
+    requires { ⌜ (from ≤ end) × (end ≤ length (now word)) ⌝ }
+    ensures { λ r. ⌜ r ≡ integerOf (take (end - from) (drop from (now (word .entry)))) ⌝ }
 {
-    to[n] = value;
+    read_integer(&word[from..end])
 }

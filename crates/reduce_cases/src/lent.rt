@@ -18,7 +18,7 @@ pub fn radial(line: &[u8], tolerance: f64, points: &[i32], out: &mut [u8], at: u
     let values = &mut places[0..room];
     let answer = reduce::simplify_radial_dist(points, tolerance, values);
     let end = case_texts::put_answer(answer, out, at);
-    case_texts::put_integers(values, out, end)
+    case_lists::put_integers(values, out, end)
 }
 
 pub fn douglas_peucker(
@@ -42,8 +42,8 @@ pub fn douglas_peucker(
     let marks = &mut mark_places[0..mark_room];
     let answer = reduce::simplify_douglas_peucker(points, tolerance, values, marks);
     let mut end = case_texts::put_answer(answer, out, at);
-    end = case_texts::put_integers(values, out, end);
-    case_texts::put_bytes(marks, out, end)
+    end = case_lists::put_integers(values, out, end);
+    case_lists::put_bytes(marks, out, end)
 }
 
 pub fn reduce(line: &[u8], tolerance: f64, points: &[i32], out: &mut [u8], at: usize) -> usize {
@@ -85,7 +85,7 @@ fn narrow(
 ) -> usize {
     let answer = reduce::reduce(points, tolerance, values, scratch, marks);
     let mut end = case_texts::put_answer(answer, out, at);
-    end = case_texts::put_integers(values, out, end);
-    end = case_texts::put_integers(scratch, out, end);
-    case_texts::put_bytes(marks, out, end)
+    end = case_lists::put_integers(values, out, end);
+    end = case_lists::put_integers(scratch, out, end);
+    case_lists::put_bytes(marks, out, end)
 }

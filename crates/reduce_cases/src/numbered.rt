@@ -17,7 +17,7 @@ pub fn numbers(line: &[u8], points: &[i32], out: &mut [u8], at: usize) -> usize 
     let values = &mut places[0..room];
     let answer = reduce::numbers(points, values);
     let end = case_texts::put_answer(answer, out, at);
-    case_texts::put_doubles(values, out, end)
+    case_lists::put_doubles(values, out, end)
 }
 
 pub fn zoom(line: &[u8], tolerance: f64, points: &[i32], out: &mut [u8], at: usize) -> usize {
@@ -33,5 +33,5 @@ pub fn zoom(line: &[u8], tolerance: f64, points: &[i32], out: &mut [u8], at: usi
     let values = &mut places[0..room];
     let answer = reduce::zoom(points, &numbers[0..n], tolerance, values);
     let end = case_texts::put_answer(answer, out, at);
-    case_texts::put_integers(values, out, end)
+    case_lists::put_integers(values, out, end)
 }

@@ -11,7 +11,7 @@ use lib.ListN.{length, drop, getD, length-append, drop-of-length-le}
 use lib.Seq.{drop-cons}
 use borrow.Author.Tests.{leb-true, not-true, not-false}
 use Rattle.texts.specs.Put.{Outcome, put}
-use Rattle.list_texts.proofs.Pieces.{put-nothing, put-both, second-fits}
+use Rattle.texts.proofs.Pieces.{put-nothing, put-both, second-fits}
 
 -- what two calls answer, one behind the other
 pub put-then : (a b out mid last : List ℕ) (at m r : ℕ) → at + length (a ++ b) ≤ length out →

@@ -58,7 +58,7 @@ fn given(call: Call, line: &[u8], word: usize, out: &mut [u8], at: usize) -> usi
     let kept = &mut places[0..room];
     let answer = made(call, &points[0..n], kept);
     let end = case_texts::put_answer(answer, out, at);
-    case_texts::put_integers(kept, out, end)
+    case_lists::put_integers(kept, out, end)
 }
 
 fn made(call: Call, points: &[i32], out: &mut [i32]) -> Answer {

@@ -3,7 +3,7 @@
 // answer has whether the round is finished behind the count, and both buffers. Anything else is a bad line.
 use crate::round::subdivide;
 use corners::Pair;
-use digits::Integer;
+use decimals::Integer;
 use lists::Read;
 
 // The longest list that is read.
@@ -33,10 +33,10 @@ pub fn answer(line: &[u8], out: &mut [u8], at: usize) -> usize {
 }
 
 fn corners(line: &[u8], closed: bool, out: &mut [u8], at: usize) -> usize {
-    let Integer::Is(c) = digits::read_integer(lines::word(line, 1)) else {
+    let Integer::Is(c) = decimals::read_integer(lines::word(line, 1)) else {
         return at;
     };
-    let Integer::Is(s) = digits::read_integer(lines::word(line, 2)) else {
+    let Integer::Is(s) = decimals::read_integer(lines::word(line, 2)) else {
         return at;
     };
     let room = case_words::read_room(lines::word(line, 5));
@@ -51,5 +51,5 @@ fn corners(line: &[u8], closed: bool, out: &mut [u8], at: usize) -> usize {
     let flags = &mut places[0..room];
     let answer = corners::find_corners(&list[0..n], Pair { c: c, s: s }, closed, flags);
     let end = case_texts::put_answer(answer, out, at);
-    case_texts::put_bytes(flags, out, end)
+    case_lists::put_bytes(flags, out, end)
 }

@@ -25,7 +25,7 @@ pub fn subdivide(line: &[u8], closed: bool, out: &mut [u8], at: usize) -> usize 
         return at;
     };
     let mut corners = [0u8; ROOM];
-    let Read::Is(m) = lists::read_pairs(lines::word(line, 5), &mut corners) else {
+    let Read::Is(m) = pairs::read_pairs(lines::word(line, 5), &mut corners) else {
         return at;
     };
     round(
@@ -85,6 +85,6 @@ fn smoothed(
     let answer = smooth::subdivide_keep_corners(points, corners, settings, closed, values, flags);
     let mut end = case_texts::put_count(answer.number(), answer.count(), out, at);
     end = case_texts::put_choice(answer.finished(), out, end);
-    end = case_texts::put_doubles(values, out, end);
-    case_texts::put_bytes(flags, out, end)
+    end = case_lists::put_doubles(values, out, end);
+    case_lists::put_bytes(flags, out, end)
 }

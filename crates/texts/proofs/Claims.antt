@@ -1,23 +1,20 @@
 -- What follows of the contracts, for their readers and their callers. Assumes nothing.
-use Prim.Native.Nat.{ℕ, _+_, _≤_, min}
+use Prim.Native.Nat.{ℕ, _+_, _≤_}
 use mathlib.Core.List.{List, [], _∷_}
 use mathlib.Core.Path.{_≡_, sym, ap, ap₂, _∙_}
 use native.Mathlib.Omega.{arith}
 use lib.Dec.{leb}
-use lib.IntN.{ℤ}
 use lib.ListN.{length}
 use borrow.Author.Tests.{leb-true}
 use denote.Ref.{now}
 use Rattle.laws.specs.If.{if-cases}
 use Rattle.texts.specs.Text.{naturalText, decimalText, hexText}
 use Rattle.texts.specs.Put.{Outcome, put}
-use Rattle.texts.proofs.Puts.{length-lowDigits}
 use Rattle.texts.proofs.write.put_byte.Reads as put_byte
 use Rattle.texts.proofs.write.put_bytes.Reads as put_bytes
 use Rattle.texts.proofs.write.put_hex.Reads as put_hex
 use Rattle.texts.proofs.decimal.put_decimal.Reads as put_decimal
 use Rattle.texts.proofs.decimal.put_natural.Reads as put_natural
-use Rattle.texts.proofs.decimal.decimal_length.Reads as decimal_length
 
 -- No contract leaves a choice: of arguments of the same contents it allows one result, and one last content of the buffer.
 -- `Post` is the contract itself, as Rattle reads it off the source, at arguments `a`, a result `r` and parameters at exit `s`.
@@ -46,10 +43,6 @@ pub put-natural-determined : (κs : _) (a a′ : _) (r r′ : ℕ) (s s′ : _) 
     _≡_ {A = Outcome} (record { next = r; out = now (s .1 .0) }) (record { next = r′; out = now (s′ .1 .0) })
 put-natural-determined κs a a′ r r′ s s′ p q n out at = put-same _ _ _ _ _ _ _ _ p q (ap naturalText n) out at
 
-pub decimal-length-determined : (κs : _) (a a′ : _) (r r′ : ℕ) (s s′ : _) → decimal_length.Post κs a r s →
-    decimal_length.Post κs a′ r′ s′ → a .0 ≡ a′ .0 → r ≡ r′
-decimal-length-determined κs a a′ r r′ s s′ p q n = p .0 ∙ ap (λ (z : ℤ). length (decimalText z)) n ∙ sym (q .0)
-
 pub put-hex-determined : (κs : _) (a a′ : _) (r r′ : ℕ) (s s′ : _) → put_hex.Post κs a r s → put_hex.Post κs a′ r′ s′ →
     a .0 ≡ a′ .0 → a .1 .0 ≡ a′ .1 .0 → now (a .1 .1 .0) ≡ now (a′ .1 .1 .0) → a .1 .1 .1 .0 ≡ a′ .1 .1 .1 .0 →
     _≡_ {A = Outcome} (record { next = r; out = now (s .1 .1 .0) }) (record { next = r′; out = now (s′ .1 .1 .0) })
@@ -66,7 +59,3 @@ next-within text out at h =
 pub put-within : (text out last : List ℕ) (at r : ℕ) → record { next = r; out = last } ≡ put text out at → at ≤ length out →
     length last ≡ length out → r ≤ length last
 put-within text out last at r e h kept = omega (arith, next-within text out at h, ap (λ (o : Outcome). o .next) e)
-
--- The length of what `put_hex` puts.
-pub length-hexText : (digits n : ℕ) → length (hexText digits n) ≡ min digits 16
-length-hexText digits n = length-lowDigits 16 (min digits 16) n

@@ -1,3 +1,4 @@
 pub mod Puts
 pub mod Signs
+pub mod Pieces
 pub mod Claims

@@ -4,6 +4,7 @@ use mathlib.Core.Path.{_≡_, refl}
 use lib.IntN.{pos, negsuc}
 use Rattle.texts.specs.Text.{lowDigits, hexText, decimalDigits, decimalText}
 use Rattle.texts.specs.Put.{put}
+use Rattle.texts.specs.Pieces.{putAll}
 
 lower-case : hexText 4 170 ≡ 48 ∷ 48 ∷ 97 ∷ 97 ∷ []
 unfolding lowDigits
@@ -28,3 +29,8 @@ in-the-middle = refl
 no-room : put (97 ∷ 97 ∷ []) (1 ∷ 2 ∷ 3 ∷ 4 ∷ []) 3 ≡ record { next = 3; out = 1 ∷ 2 ∷ 3 ∷ 4 ∷ [] }
 unfolding put
 no-room = refl
+
+one-after-the-other : putAll ((97 ∷ 97 ∷ []) ∷ (45 ∷ 45 ∷ []) ∷ (48 ∷ []) ∷ []) (record { next = 0; out = 1 ∷ 2 ∷ 3 ∷ [] }) ≡
+    record { next = 3; out = 97 ∷ 97 ∷ 48 ∷ [] }
+unfolding putAll put
+one-after-the-other = refl

@@ -28,17 +28,6 @@ pub fn put_natural(n: u64, out: &mut [u8], at: usize) -> usize
     put_digits(n, 10, places(n), out, at)
 }
 
-// How many bytes `put_decimal` writes, where they fit.
-pub fn decimal_length(n: i64) -> usize
-    ensures { λ r. ⌜ (r ≡ length (decimalText n)) × (r ≤ 21) ⌝ }
-{
-    let k = places(magnitude(n));
-    if n < 0 {
-        return k + 1;
-    }
-    k
-}
-
 fn put_negative(n: u64, out: &mut [u8], at: usize) -> usize
     ensures { λ r. ⌜ record { next = r; out = now (out .exit) } ≡ put (45 ∷ naturalText n) (now (out .entry)) at ⌝ }
 {

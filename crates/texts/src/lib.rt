@@ -6,7 +6,6 @@ mod decimal;
 mod glyphs;
 mod write;
 
-pub use decimal::decimal_length;
 pub use decimal::put_decimal;
 pub use decimal::put_natural;
 pub use write::put_byte;

@@ -5,9 +5,9 @@
 use crate::state::fresh;
 use crate::state::step;
 use chart::Chart;
-use digits::Integer;
-use digits::Natural;
-use lists::Read;
+use decimals::Integer;
+use decimals::Natural;
+use pairs::Read;
 use point::PointI32;
 
 // What a buffer holds before the call.
@@ -33,16 +33,16 @@ pub fn answer(line: &[u8], out: &mut [u8], at: usize) -> usize {
 }
 
 fn walk(line: &[u8], out: &mut [u8], at: usize) -> usize {
-    let Natural::Is(width) = digits::read_natural(lines::word(line, 2)) else {
+    let Natural::Is(width) = decimals::read_natural(lines::word(line, 2)) else {
         return at;
     };
-    let Natural::Is(height) = digits::read_natural(lines::word(line, 3)) else {
+    let Natural::Is(height) = decimals::read_natural(lines::word(line, 3)) else {
         return at;
     };
-    let Integer::Is(x) = digits::read_integer(lines::word(line, 5)) else {
+    let Integer::Is(x) = decimals::read_integer(lines::word(line, 5)) else {
         return at;
     };
-    let Integer::Is(y) = digits::read_integer(lines::word(line, 6)) else {
+    let Integer::Is(y) = decimals::read_integer(lines::word(line, 6)) else {
         return at;
     };
     let chart = Chart {
@@ -59,7 +59,7 @@ fn walk_from(line: &[u8], chart: Chart, start: PointI32, out: &mut [u8], at: usi
         return at;
     }
     let mut bytes = [0u8; MOST];
-    let Read::Is(n) = lists::read_pairs(lines::word(line, 4), &mut bytes) else {
+    let Read::Is(n) = pairs::read_pairs(lines::word(line, 4), &mut bytes) else {
         return at;
     };
     walk_on(line, chart, &bytes[0..n], start, clockwise == 1, out, at)
@@ -83,5 +83,5 @@ fn walk_on(
     let values = &mut places[0..room];
     let answer = walker::walk(chart, pixels, start, clockwise, values);
     let end = case_texts::put_count(answer.number(), answer.count(), out, at);
-    case_texts::put_integers(values, out, end)
+    case_lists::put_integers(values, out, end)
 }

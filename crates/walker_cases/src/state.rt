@@ -1,12 +1,12 @@
 // `spiral SIZE` and `spiral_step STATE`: a state is the nine fields of a spiral, in their order.
-use digits::Integer;
-use digits::Natural;
+use decimals::Integer;
+use decimals::Natural;
 use spiral::Fresh;
 use spiral::SpiralWalker;
 use spiral::Turn;
 
 pub fn fresh(line: &[u8], out: &mut [u8], at: usize) -> usize {
-    let Natural::Is(size) = digits::read_natural(lines::word(line, 1)) else {
+    let Natural::Is(size) = decimals::read_natural(lines::word(line, 1)) else {
         return at;
     };
     let answer = spiral::spiral(size as usize);
@@ -22,10 +22,10 @@ pub fn step(line: &[u8], out: &mut [u8], at: usize) -> usize {
     if !read_fields(line, &mut fields) {
         return at;
     }
-    let Natural::Is(area) = digits::read_natural(lines::word(line, 8)) else {
+    let Natural::Is(area) = decimals::read_natural(lines::word(line, 8)) else {
         return at;
     };
-    let Natural::Is(step) = digits::read_natural(lines::word(line, 9)) else {
+    let Natural::Is(step) = decimals::read_natural(lines::word(line, 9)) else {
         return at;
     };
     let s = SpiralWalker {
@@ -46,7 +46,7 @@ pub fn step(line: &[u8], out: &mut [u8], at: usize) -> usize {
 fn read_fields(line: &[u8], fields: &mut [i32; 7]) -> bool {
     let mut i = 0;
     while i < 7 {
-        let Integer::Is(n) = digits::read_integer(lines::word(line, i + 1)) else {
+        let Integer::Is(n) = decimals::read_integer(lines::word(line, i + 1)) else {
             return false;
         };
         fields[i] = n;

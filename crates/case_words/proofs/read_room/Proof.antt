@@ -3,9 +3,9 @@ use Prim.Native.Nat.{ℕ}
 use mathlib.Core.List.{List}
 use mathlib.Core.Path.{_≡_, sym, ap, _∙_}
 use borrow.Author.Needs.{needs}
-use Rattle.digits.specs.Numeral.{naturalOf}
-use Rattle.digits.specs.declared.natural.Natural.{Natural}
-use Rattle.digits.specs.declared.natural.Natural.the-variants as Natural
+use Rattle.decimals.specs.Decimal.{naturalOf}
+use Rattle.decimals.specs.declared.natural.Natural.{Natural}
+use Rattle.decimals.specs.declared.natural.Natural.the-variants as Natural
 use Rattle.case_words.specs.Words.{orGreatest, roomOf}
 use Rattle.case_words.proofs.read_room.Statement.{statement}
 use Rattle.case_words.proofs.read_room.Tie as tie

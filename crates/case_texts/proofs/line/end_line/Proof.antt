@@ -1,6 +1,7 @@
 -- `case_texts::end_line` meets its contract. Assumes nothing.
 use Prim.Native.Nat.{ℕ, _-_, _≤_, _<_}
 use mathlib.Core.List.{List}
+use mathlib.Core.Logic.{⊎-elim}
 use mathlib.Core.Path.{_≡_}
 use lib.ListN.{length, set}
 use borrow.Author.Needs.{needs}
@@ -11,13 +12,13 @@ use Rattle.case_texts.proofs.line.end_line.Statement.{statement}
 use Rattle.case_texts.proofs.line.end_line.Tie as tie
 
 module _ (out : List ℕ) (from to : ℕ) where
-  no-value : (o : Outcome) → to ≤ from → o ≡ put badLine out from → o ≡ ended out from to
+  no-value : (o : Outcome) → o ≡ put badLine out from → to ≤ from → o ≡ ended out from to
   unfolding ended
-  no-value o h e = rw (le-leb to from h) e
+  no-value o e h = rw (le-leb to from h) e
 
-  outside : (o : Outcome) → from < to → length out < to → o ≡ put badLine out from → o ≡ ended out from to
+  outside : (o : Outcome) → o ≡ put badLine out from → from < to → length out < to → o ≡ ended out from to
   unfolding ended
-  outside o h l e = rw (lt-leb to from h, lt-ltb (length out) to l) e
+  outside o e h l = rw (lt-leb to from h, lt-ltb (length out) to l) e
 
   a-line : from < to → to ≤ length out → record { next = to; out = set out (to - 1) 10 } ≡ ended out from to
   unfolding ended
@@ -25,19 +26,19 @@ module _ (out : List ℕ) (from to : ℕ) where
 
 ruleset laws = (no-value, outside, a-line, needs)
 
+-- the two ways to a bad line
+bad-line : tie.Need-returns-2
+bad-line c = ⊎-elim (λ w. search laws) (λ w. search laws) (c .before .before .before .before .before .if1 .came)
+
 pub end-line-spec : {M : Type 1} → statement M
 end-line-spec =
     tie.close
     (tie.spec
-    (λ c. search laws)  -- slice-aggregate-put-bytes
-    (λ c κs. search laws)  -- put-bytes-requires
+    (λ c. search laws)  -- sub-out
+    (λ c. search laws)  -- slice-write-out
     (λ c. search laws)  -- same-length
     (λ c. search laws)  -- returns
-    (λ c. search laws)  -- slice-aggregate-put-bytes-2
-    (λ c κs. search laws)  -- put-bytes-requires-2
+    (λ c. search laws)  -- slice-aggregate-put-bytes
+    (λ c κs. search laws)  -- put-bytes-requires
     (λ c. search laws)  -- same-length-2
-    (λ c. search laws)  -- returns-2
-    (λ c. search laws)  -- sub
-    (λ c. search laws)  -- slice-write-out
-    (λ c. search laws)  -- same-length-3
-    (λ c. search laws))  -- returns-3
+    bad-line)  -- returns-2

@@ -1,6 +1,6 @@
 -- `chart_cases::answer` is safe: what is read fits. Assumes nothing.
 use borrow.Author.Needs.{needs}
-use Rattle.lists.proofs.Claims.{read-fits}
+use Rattle.pairs.proofs.Claims.{read-fits}
 use Rattle.chart_cases.proofs.answer.answer.Statement.{statement}
 use Rattle.chart_cases.proofs.answer.answer.Tie as tie
 

@@ -1,6 +1,7 @@
 -- `lists::read_doubles` meets its contract: the tests on the way pick a line of `readInto`. Assumes nothing.
 use borrow.Author.Needs.{needs}
-use Rattle.lists.proofs.Values.{read-none, read-short, read-all, read-room, no-values, some-values}
+use Rattle.pairs.proofs.Into.{read-none, read-short, read-all, read-room}
+use Rattle.lists.proofs.Values.{no-values, some-values}
 use Rattle.lists.proofs.doubles.read_doubles.Statement.{statement}
 use Rattle.lists.proofs.doubles.read_doubles.Tie as tie
 

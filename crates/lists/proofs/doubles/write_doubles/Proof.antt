@@ -13,46 +13,44 @@ use Rattle.line_words.specs.Split.{firstFrom}
 use Rattle.digits.specs.Numeral.{patternOf}
 use Rattle.digits.specs.declared.read.Hex.{Hex}
 use Rattle.digits.specs.declared.read.Hex.the-variants as Hex
-use Rattle.lists.specs.Lists.{doubleSaid, double, itemsOf, over, Room}
-use Rattle.lists.proofs.Values.{has-place, stored-more, stored-last, stored-none, room-more}
+use Rattle.pairs.specs.Into.{over, Room}
+use Rattle.lists.specs.Lists.{doubleSaid, double, itemsOf}
+use Rattle.lists.proofs.Values.{left, room-first, stored-first, has-place, stored-more, room-more, stored-none, stored-all}
 use Rattle.lists.proofs.doubles.write_doubles.Statement.{statement}
 use Rattle.lists.proofs.doubles.write_doubles.Tie as tie
 
 abbrev Inv-loop : tie.InvT-loop
 Inv-loop word sep to₀ n₀ at₀ to n at =
-    (at ≤ length word) × (n ≤ at) × (length to ≡ length to₀) × Room (itemsOf double sep (drop at word)) n (length to) ×
-    (over (itemsOf double sep word) to₀ ≡ take n to ++ over (itemsOf double sep (drop at word)) (drop n to))
+    (at ≤ length word + 1) × (n ≤ at) × (length to ≡ length to₀) × Room (left double sep word at) n (length to) ×
+    (over (itemsOf double sep word) to₀ ≡ take n to ++ over (left double sep word at) (drop n to))
 
 abbrev μ-loop : tie.MeasureT-loop
-μ-loop word sep to₀ n₀ at₀ to n at = length word - at
+μ-loop word sep to₀ n₀ at₀ to n at = length word + 1 - at
 
-module _ (sep : ℕ) (w : List ℕ) (to₀ to : List Float) (n at end : ℕ) (r : Hex) (found : end ≡ firstFrom sep at w) (inside : at ≤ length w)
-    (inv : over (itemsOf double sep w) to₀ ≡ take n to ++ over (itemsOf double sep (drop at w)) (drop n to))
-    (room : Room (itemsOf double sep (drop at w)) n (length to)) (says : r ≡ patternOf (take (end - at) (drop at w))) where
+module _ (sep : ℕ) (w : List ℕ) (to₀ to : List Float) (n at end : ℕ) (r : Hex)
+    (inv : over (itemsOf double sep w) to₀ ≡ take n to ++ over (left double sep w at) (drop n to)) (room : Room (left double sep w at) n (length to))
+    (found : end ≡ firstFrom sep at w) (inside : at ≤ length w) (within : end ≤ length w) (says : r ≡ patternOf (take (end - at) (drop at w))) where
   module _ (bits : ℕ) (is : r ≡ Hex.Is bits) where
     said : double (take (end - at) (drop at w)) ≡ some (ofBits binary64 bits)
     said = ap doubleSaid (sym says ∙ is)
 
     place : n < length to
-    place = has-place double sep w n at end found inside to₀ to inv room (ofBits binary64 bits) said
+    place = has-place double sep w to₀ to n at inv room end found inside within (ofBits binary64 bits) said
 
     place-fits : length to ≡ length to₀ → length to₀ * 8 < 2 ^ 63 → Fits w64 (n * 8)
     place-fits k h = scaled-fits n (length to₀) 8 (subst (λ (m : ℕ). n < m) k place) h
 
     module _ (x : Float) (of : x ≡ ofBits binary64 bits) where
-      again : (end ≡ length w → ⊥) → over (itemsOf double sep w) to₀ ≡ take (n + 1) (set to n x) ++ over (itemsOf double sep (drop (end + 1) w)) (drop (n + 1) (set to n x))
-      again h = stored-more double sep w n at end found inside to₀ to inv room x (said ∙ ap some (sym of)) h
+      again : over (itemsOf double sep w) to₀ ≡ take (n + 1) (set to n x) ++ over (left double sep w (end + 1)) (drop (n + 1) (set to n x))
+      again = stored-more double sep w to₀ to n at inv room end found inside within x (said ∙ ap some (sym of))
 
-      room-again : (end ≡ length w → ⊥) → Room (itemsOf double sep (drop (end + 1) w)) (n + 1) (length (set to n x))
-      room-again h = room-more double sep w n at end found inside to₀ to inv room x (said ∙ ap some (sym of)) h
-
-      last : end ≡ length w → set to n x ≡ over (itemsOf double sep w) to₀
-      last h = stored-last double sep w n at end found inside to₀ to inv room x (said ∙ ap some (sym of)) h
+      room-again : Room (left double sep w (end + 1)) (n + 1) (length (set to n x))
+      room-again = room-more double sep w to₀ to n at inv room end found inside within x (said ∙ ap some (sym of))
 
   never : r ≡ Hex.Not → to ≡ over (itemsOf double sep w) to₀
-  never e = stored-none double sep w n at end found inside to₀ to inv room (ap doubleSaid (sym says ∙ e))
+  never e = stored-none double sep w to₀ to n at inv room end found inside within (ap doubleSaid (sym says ∙ e))
 
-ruleset laws = (place, place-fits, again, room-again, last, never, needs)
+ruleset laws = (room-first, stored-first, place, place-fits, again, room-again, never, stored-all, needs)
 
 pub write-doubles-spec : {M : Type 1} → statement M
 write-doubles-spec =
@@ -62,11 +60,8 @@ write-doubles-spec =
     μ-loop
     (λ c. search laws)  -- loop-holds
     (λ c κs. search laws)  -- item-end-requires
-    (λ c. search laws)  -- sub-read-pattern
-    (λ c. search laws)  -- part-read-pattern-start
-    (λ c. search laws)  -- part-read-pattern-end
-    (λ c κs. search laws)  -- read-pattern-requires
-    (λ c. search laws)  -- enum-known-value
+    (λ c κs. search laws)  -- pattern-in-requires
+    (λ c. search laws)  -- enum-known-bits
     (λ c. search laws)  -- enum-told
     (λ c. search laws)  -- same-length
     (λ c. search laws)  -- returns
@@ -74,8 +69,8 @@ write-doubles-spec =
     (λ c. search laws)  -- mul-to
     (λ c. search laws)  -- slice-write-to
     (λ c. search laws)  -- add-n
-    (λ c. search laws)  -- same-length-2
-    (λ c. search laws)  -- returns-2
     (λ c. search laws)  -- add-at
     (λ c. search laws)  -- loop-less
-    (λ c. (search laws, search laws, search laws, search laws, search laws)))  -- loop-again
+    (λ c. (search laws, search laws, search laws, search laws, search laws))  -- loop-again
+    (λ c. search laws)  -- same-length-2
+    (λ c. search laws))  -- returns-2

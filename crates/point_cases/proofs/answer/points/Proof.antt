@@ -1,6 +1,6 @@
 -- `point_cases::points` is safe: what is read fits. Assumes nothing.
 use borrow.Author.Needs.{needs}
-use Rattle.lists.proofs.Claims.{read-fits}
+use Rattle.pairs.proofs.Claims.{read-fits}
 use Rattle.point_cases.proofs.answer.points.Statement.{statement}
 use Rattle.point_cases.proofs.answer.points.Tie as tie
 

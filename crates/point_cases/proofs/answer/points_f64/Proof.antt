@@ -1,6 +1,6 @@
 -- `point_cases::points_f64` is safe: what is read fits. Assumes nothing.
 use borrow.Author.Needs.{needs}
-use Rattle.lists.proofs.Claims.{read-fits}
+use Rattle.pairs.proofs.Claims.{read-fits}
 use Rattle.point_cases.proofs.answer.points_f64.Statement.{statement}
 use Rattle.point_cases.proofs.answer.points_f64.Tie as tie
 

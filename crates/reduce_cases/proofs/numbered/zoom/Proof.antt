@@ -1,6 +1,6 @@
 -- `reduce_cases::zoom` is safe: what is read fits. Assumes nothing.
 use borrow.Author.Needs.{needs}
-use Rattle.lists.proofs.Claims.{read-fits}
+use Rattle.pairs.proofs.Claims.{read-fits}
 use Rattle.reduce_cases.proofs.numbered.zoom.Statement.{statement}
 use Rattle.reduce_cases.proofs.numbered.zoom.Tie as tie
 

@@ -47,24 +47,22 @@ again values m i end next bits mid out last h l b e =
     left-value doubles (λ (v : Float). hexText 16 (toBits binary64 v)) refl (λ v vs. refl) (doubles values) mid m values i nan out last end next h l
     (e ∙ ap (λ (n : ℕ). put (hexText 16 n) out end) b)
 
-ruleset laws = (holds, again, ends, head-fits, none-fits, length-numbers, needs)
-
 pub put-numbers-spec : {M : Type 1} → statement M
 put-numbers-spec =
     tie.close
     (tie.spec
     Inv-loop
     μ-loop
-    (λ c κs. search laws)  -- fits-requires
-    (λ c. search laws)  -- returns
-    (λ c κs. search laws)  -- put-head-requires
-    (λ c. (search laws, search laws, search laws))  -- loop-holds
-    (λ c. search laws)  -- mul-to-bits
-    (λ c. search laws)  -- shared-slice-read-to-bits
-    (λ c κs. search laws)  -- to-bits-requires
-    (λ c κs. search laws)  -- put-hex-requires
-    (λ c. search laws)  -- add-i
-    (λ c. search laws)  -- loop-less
-    (λ c. search laws)  -- loop-again
-    (λ c. search laws)  -- same-length
-    (λ c. search laws))  -- returns-2
+    (λ c κs. search needs)  -- fits-requires
+    (λ c. search (none-fits, length-numbers))  -- returns
+    (λ c κs. search head-fits)  -- put-head-requires
+    (λ c. (search needs, search needs, search holds))  -- loop-holds
+    (λ c. search needs)  -- mul-to-bits
+    (λ c. search needs)  -- shared-slice-read-to-bits
+    (λ c κs. search needs)  -- to-bits-requires
+    (λ c κs. search needs)  -- put-hex-requires
+    (λ c. search needs)  -- add-i
+    (λ c. search needs)  -- loop-less
+    (λ c. (search needs, search needs, search again))  -- loop-again
+    (λ c. search needs)  -- same-length
+    (λ c. search ends))  -- returns-2

@@ -52,24 +52,22 @@ again values m i end next bits mid out last h l fits b e =
     left-value coordinates (λ (v : ℤ). hexText 4 (ofZ w32 v)) refl (λ v vs. refl) (coordinates values) mid m values i (pos 0) out last end next h l
     (e ∙ ap (λ (n : ℕ). put (hexText 4 n) out end) (b ∙ ap (ofZ w32) (toZ-ofZ w32 (getD values i (pos 0)) (sfits-of fits))))
 
-ruleset laws = (holds, again, ends, head-fits, none-fits, length-points, needs)
-
 pub put-points-spec : {M : Type 1} → statement M
 put-points-spec =
     tie.close
     (tie.spec
     Inv-loop
     μ-loop
-    (λ c κs. search laws)  -- fits-requires
-    (λ c. search laws)  -- returns
-    (λ c κs. search laws)  -- put-head-requires
-    (λ c. (search laws, search laws, search laws))  -- loop-holds
-    (λ c. search laws)  -- mul-pattern
-    (λ c. search laws)  -- shared-slice-copy-out-pattern
-    (λ c κs. search laws)  -- pattern-requires
-    (λ c κs. search laws)  -- put-hex-requires
-    (λ c. search laws)  -- add-i
-    (λ c. search laws)  -- loop-less
-    (λ c. search laws)  -- loop-again
-    (λ c. search laws)  -- same-length
-    (λ c. search laws))  -- returns-2
+    (λ c κs. search needs)  -- fits-requires
+    (λ c. search (none-fits, length-points))  -- returns
+    (λ c κs. search head-fits)  -- put-head-requires
+    (λ c. (search needs, search needs, search holds))  -- loop-holds
+    (λ c. search needs)  -- mul-pattern
+    (λ c. search needs)  -- shared-slice-copy-out-pattern
+    (λ c κs. search needs)  -- pattern-requires
+    (λ c κs. search needs)  -- put-hex-requires
+    (λ c. search needs)  -- add-i
+    (λ c. search needs)  -- loop-less
+    (λ c. (search needs, search needs, search again))  -- loop-again
+    (λ c. search needs)  -- same-length
+    (λ c. search ends))  -- returns-2

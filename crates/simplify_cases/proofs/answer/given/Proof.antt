@@ -1,6 +1,6 @@
 -- `simplify_cases::given` is safe: what is read fits. Assumes nothing.
 use borrow.Author.Needs.{needs}
-use Rattle.lists.proofs.Claims.{read-fits}
+use Rattle.pairs.proofs.Claims.{read-fits}
 use Rattle.simplify_cases.proofs.answer.given.Statement.{statement}
 use Rattle.simplify_cases.proofs.answer.given.Tie as tie
 

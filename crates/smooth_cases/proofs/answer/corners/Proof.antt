@@ -1,6 +1,6 @@
 -- `smooth_cases::corners` is safe: what is read fits. Assumes nothing.
 use borrow.Author.Needs.{needs}
-use Rattle.lists.proofs.Claims.{read-fits}
+use Rattle.pairs.proofs.Claims.{read-fits}
 use Rattle.smooth_cases.proofs.answer.corners.Statement.{statement}
 use Rattle.smooth_cases.proofs.answer.corners.Tie as tie
 

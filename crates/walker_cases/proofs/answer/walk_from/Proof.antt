@@ -1,6 +1,6 @@
 -- `walker_cases::walk_from` is safe: what is read fits. Assumes nothing.
 use borrow.Author.Needs.{needs}
-use Rattle.lists.proofs.Claims.{read-fits}
+use Rattle.pairs.proofs.Claims.{read-fits}
 use Rattle.walker_cases.proofs.answer.walk_from.Statement.{statement}
 use Rattle.walker_cases.proofs.answer.walk_from.Tie as tie
 

@@ -1,0 +1,84 @@
+// Bytes, each as two hexadecimal digits.
+ghost use mathlib.Core.Path.{_≡_};
+ghost use Prim.Native.Nat.{_+_, _≤_};
+ghost use lib.ListN.{length, getD};
+ghost use Rattle.pairs.specs.Into.{countOf, over, Room, readInto};
+ghost use Rattle.pairs.specs.Pairs.{pairOf, bytesOf, pairsOf};
+use crate::Read;
+use crate::is_dash;
+use digits::digit;
+
+// Reads the bytes of a word to the start of `to`, and answers how many there are. Where the digits are
+// odd or one is none, or there is no room for all, it writes nothing.
+pub fn read_bytes(word: &[u8], to: &mut [u8]) -> Read
+    ensures { λ r. ⌜ record { answer = r; to = now (to .exit) } ≡ readInto (bytesOf (now (word .entry))) (now (to .entry)) ⌝ }
+{
+    let Read::Is(n) = count_bytes(word) else {
+        return Read::Not;
+    };
+    if to.len() < n {
+        return Read::Not;
+    }
+    write_bytes(word, to);
+    Read::Is(n)
+}
+
+// The same, where `-` is the word of no bytes, and an empty one is none.
+pub fn read_pairs(word: &[u8], to: &mut [u8]) -> Read
+    ensures { λ r. ⌜ record { answer = r; to = now (to .exit) } ≡ readInto (pairsOf (now (word .entry))) (now (to .entry)) ⌝ }
+{
+    if is_dash(word) {
+        return Read::Is(0);
+    }
+    if word.len() == 0 {
+        return Read::Not;
+    }
+    read_bytes(word, to)
+}
+
+fn count_bytes(word: &[u8]) -> Read
+    ensures { λ r. ⌜ r ≡ countOf (bytesOf (now (word .entry))) ⌝ }
+{
+    let mut n = 0;
+    let mut at = 0;
+    while at < word.len() {
+        if word.len() < at + 2 {
+            return Read::Not;
+        }
+        if 255 < pair(word, at) {
+            return Read::Not;
+        }
+        n += 1;
+        at += 2;
+    }
+    Read::Is(n)
+}
+
+fn write_bytes(word: &[u8], to: &mut [u8])
+    requires { ⌜ Room (bytesOf (now word)) 0 (length (now to)) ⌝ }
+    ensures { λ _. ⌜ now (to .exit) ≡ over (bytesOf (now (word .entry))) (now (to .entry)) ⌝ }
+{
+    let mut n = 0;
+    let mut at = 0;
+    while at + 1 < word.len() {
+        to[n] = pair(word, at) as u8;
+        n += 1;
+        at += 2;
+    }
+}
+
+// The byte that the two digits at a place say; 256 where one of them is none.
+fn pair(word: &[u8], at: usize) -> u64
+    requires { ⌜ at + 2 ≤ length (now word) ⌝ }
+    ensures { λ r. ⌜ r ≡ pairOf (getD (now (word .entry)) at 0) (getD (now (word .entry)) (at + 1) 0) ⌝ }
+{
+    let high = digit(word[at]);
+    let low = digit(word[at + 1]);
+    if 16 <= high {
+        return 256;
+    }
+    if 16 <= low {
+        return 256;
+    }
+    high * 16 + low
+}
