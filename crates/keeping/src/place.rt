@@ -9,8 +9,8 @@ pub(crate) fn put(points: &[i32], k: usize, at: usize, out: &mut [i32])
     requires { ⌜ (k < count (now points)) × (at < count (now out)) ⌝ }
     ensures { λ _. ⌜ now (out .exit) ≡ placed (now (points .entry)) k at (now (out .entry)) ⌝ }
 {
-    let from = k * 2;
-    let to = at * 2;
-    out[to] = points[from];
-    out[to + 1] = points[from + 1];
+    let x = points[k * 2];
+    let y = points[k * 2 + 1];
+    out[at * 2] = x;
+    out[at * 2 + 1] = y;
 }

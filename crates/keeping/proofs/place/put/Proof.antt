@@ -28,21 +28,25 @@ module _ (points out : List ℤ) (k at : ℕ) where
   unfolding placed
   both-stored x y = rw (toZ-ofZ w32 (getD points (k * 2) (pos 0)) (sfits-of x), toZ-ofZ w32 (getD points (k * 2 + 1) (pos 0)) (sfits-of y))
 
+ruleset laws = (second-place, both-stored, needs)
+
 pub put-spec : {M : Type 1} → statement M
 put-spec =
     tie.close
     (tie.spec
-    (λ c. search needs)  -- mul-from
-    (λ c. search needs)  -- mul-to
-    (λ c. search needs)  -- mul-out
-    (λ c. search needs)  -- shared-slice-copy-out-out
-    (λ c. search needs)  -- mul-out-2
-    (λ c. search needs)  -- slice-set-from-out
-    (λ c. search needs)  -- add-out
-    (λ c. search needs)  -- mul-out-3
-    (λ c. search needs)  -- shared-slice-copy-out-out-2
-    (λ c. search needs)  -- add-t13
-    (λ c. search needs)  -- mul-t14
-    (λ c. search second-place)  -- slice-set-from-out-2
-    (λ c. search needs)  -- same-length
-    (λ c. search both-stored))  -- returns
+    (λ c. search laws)  -- mul-x
+    (λ c. search laws)  -- mul-x-2
+    (λ c. search laws)  -- shared-slice-copy-out-x
+    (λ c. search laws)  -- mul-y
+    (λ c. search laws)  -- add-y
+    (λ c. search laws)  -- mul-y-2
+    (λ c. search laws)  -- shared-slice-copy-out-y
+    (λ c. search laws)  -- mul-x-3
+    (λ c. search laws)  -- mul-x-4
+    (λ c. search laws)  -- slice-set-from-x
+    (λ c. search laws)  -- mul-y-3
+    (λ c. search laws)  -- add-y-2
+    (λ c. search laws)  -- mul-y-4
+    (λ c. search laws)  -- slice-set-from-y
+    (λ c. search laws)  -- same-length
+    (λ c. search laws))  -- returns
