@@ -159,7 +159,7 @@ uint8_t sandline_simplify_radial_dist(const int32_t *points, size_t length, doub
 // Douglas-Peucker at a SQUARED tolerance, 0 to 4,294,967,296. Both ends stay; one point is answered twice.
 // After it marks starts with n bytes, 1 for each point kept and 0 for each dropped.
 // Room: n marks too. Refuses a list of no points (4) too.
-// Stack of sandline_simplify_douglas_peucker: 296 bytes, and 144 for each further level, n - 2 of them at most.
+// Stack of sandline_simplify_douglas_peucker: 312 bytes, and 144 for each further level, n - 2 of them at most.
 uint8_t sandline_simplify_douglas_peucker(const int32_t *points, size_t length, double tolerance, int32_t *out,
                                           size_t room, uint8_t *marks, size_t mark_room, size_t *count);
 

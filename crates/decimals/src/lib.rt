@@ -1,7 +1,7 @@
 // Decimal numbers, read from a word.
 //
-// Nothing fails: what is no number is answered `Not`. What writes numbers stands in `texts`. No call takes more stack than its return address, 8 bytes (measured on the x86-64
-// code).
+// Nothing fails: what is no number is answered `Not`. What writes numbers stands in `texts`. The deepest
+// call, of `read_integer`, takes 16 bytes of stack with its return address (measured on the x86-64 code).
 mod integer;
 mod natural;
 

@@ -6,7 +6,7 @@
 //
 // Stack, in x86-64 code at -O3: 119,040 bytes for all four kinds, that is for the arrays of kind 03, the
 // greatest. LLVM makes one function of them and lays the others' arrays over these. What comes on top
-// is Douglas-Peucker's recursion, 144 bytes a span, and that of the numbers, 160.
+// is the recursion of Douglas-Peucker or of the numbers, 144 bytes a span.
 mod line;
 
 pub use line::answer;

@@ -5,8 +5,8 @@
 // Lists of points are x, y, x, y, in lent slices; counts are points. Refusals are judged first, and
 // then nothing can fail.
 //
-// `reduce` takes 655,336 bytes of stack at most, of which 655,200 are the levels of `split` for 4,096
-// points (measured on the x86-64 code at -O3, with return addresses).
+// `reduce` takes 360 bytes of stack, and 144 for each further level of `split`: 589,896 at most, for 4,096
+// points (measured on the x86-64 code of the call for C, with return addresses).
 mod narrow;
 
 pub use douglas_peucker::simplify_douglas_peucker;
