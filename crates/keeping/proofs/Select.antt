@@ -12,8 +12,7 @@ use lib.Seq.{drop-cons}
 use Rattle.point.specs.Limits.{placesFor}
 use Rattle.point.specs.declared.PointI32.{PointI32}
 use Rattle.outline.proofs.Room.{places-enough}
-use Rattle.split.specs.Tree.{mark}
-use Rattle.keeping.specs.Kept.{select, kept, marksAfter, marksBy}
+use Rattle.keeping.specs.Kept.{select, kept, marksAfter, marksBy, mark}
 
 -- ---- by marks
 

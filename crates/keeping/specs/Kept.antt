@@ -1,11 +1,10 @@
 -- The points of a list that marks keep, and the marks by the numbers.
 use Prim.Native.Nat.{ℕ}
-use mathlib.Core.Bool.{true, false}
+use mathlib.Core.Bool.{Bool, true, false}
 use mathlib.Core.List.{List, [], _∷_}
 use lib.Dec.{eqb}
 use lib.Ieee.{Float, lt}
 use Rattle.point.specs.declared.PointI32.{PointI32}
-use Rattle.split.specs.Tree.{mark}
 
 -- the points whose mark is not 0
 unfoldable pub select : List ℕ → List PointI32 → List PointI32
@@ -19,6 +18,11 @@ unfolding select
 kept marks [] = []
 kept marks (p ∷ []) = p ∷ p ∷ []
 kept marks (p ∷ q ∷ ps) = select marks (p ∷ q ∷ ps)
+
+-- 1 for what is kept, 0 for what is dropped
+abbrev pub mark : Bool → ℕ
+mark true = 1
+mark false = 0
 
 -- the marks by the numbers: both ends are kept, and between them each point whose number is greater than the tolerance
 unfoldable pub marksAfter : Float → List Float → List ℕ

@@ -1,7 +1,7 @@
 -- Document 01, "Numbers" and "reduce.rs": the tree of splits of a list of points; Douglas-Peucker is that tree cut at a tolerance, and a
 -- point's number is the least distance on the way down to it.
 use Prim.Native.Nat.{ℕ, zero, suc, _+_, _-_}
-use mathlib.Core.Bool.{Bool, true, false}
+use mathlib.Core.Bool.{true, false}
 use mathlib.Core.List.{List, [], _∷_, _++_}
 use lib.Dec.{ltb}
 use lib.IntN.{ℤ}
@@ -47,10 +47,6 @@ abbrev pub framed : {A : Type 0} → List ℤ → A → List A → List A
 framed points end inside = if ltb 1 (count points) then end ∷ (inside ++ (end ∷ [])) else end ∷ []
 
 -- ---- Douglas-Peucker: a span whose greatest distance is at most the tolerance loses its interior
-
-abbrev pub mark : Bool → ℕ
-mark true = 1
-mark false = 0
 
 -- 1 for each kept and 0 for each dropped position of the interior, in order
 unfoldable pub cut : Float → Tree → List ℕ
