@@ -2,7 +2,7 @@
 use Prim.Native.Nat.{ℕ}
 use mathlib.Core.List.{List, [], _∷_}
 use lib.IntN.{ℤ}
-use Rattle.point.specs.Refusals.{refusalNumber}
+use Rattle.refusals.specs.Refusals.{refusalNumber}
 use Rattle.bitmap.specs.declared.Cells.{Cells}
 use Rattle.bitmap.specs.declared.Cells.the-variants as Cells
 use Rattle.bitmap.specs.declared.Start.{Start}

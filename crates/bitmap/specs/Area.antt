@@ -2,9 +2,9 @@
 use Prim.Native.Nat.{ℕ, zero, suc, _+_}
 use mathlib.Core.List.{List}
 use mathlib.Core.Option.{Option, some, none}
-use Rattle.point.specs.Refusals.{refuse_when_or_}
-use Rattle.point.specs.declared.Refusal.{Refusal}
-use Rattle.point.specs.declared.Refusal.the-variants.{BadSize}
+use Rattle.refusals.specs.Refusals.{refuse_when_or_}
+use Rattle.refusals.specs.declared.Refusal.{Refusal}
+use Rattle.refusals.specs.declared.Refusal.the-variants.{BadSize}
 use Rattle.bitmap.specs.Pixels.{cell, one, badChart}
 use Rattle.bitmap.specs.declared.Chart.{Chart}
 use Rattle.bitmap.specs.declared.Cells.{Cells}

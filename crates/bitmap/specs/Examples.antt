@@ -4,7 +4,7 @@ use mathlib.Core.List.{[], _∷_}
 use mathlib.Core.Path.{_≡_, refl}
 use lib.IntN.{pos, negsuc}
 use lib.ListN.{replicate}
-use Rattle.point.specs.declared.Refusal.the-variants.{BadSize, NoWay}
+use Rattle.refusals.specs.declared.Refusal.the-variants.{BadSize, NoWay}
 use Rattle.bitmap.specs.Pixels.{badChart, pixelAt, aroundOf}
 use Rattle.bitmap.specs.Area.{areaOf}
 use Rattle.bitmap.specs.Start.{firstStart}

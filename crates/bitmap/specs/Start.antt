@@ -6,10 +6,10 @@ use mathlib.Core.List.{List}
 use mathlib.Core.Option.{Option, some, none}
 use lib.Dec.{ltb}
 use lib.IntN.{pos}
-use Rattle.point.specs.Refusals.{refuse_when_or_}
+use Rattle.refusals.specs.Refusals.{refuse_when_or_}
 use Rattle.point.specs.declared.PointI32.{PointI32}
-use Rattle.point.specs.declared.Refusal.{Refusal}
-use Rattle.point.specs.declared.Refusal.the-variants.{BadSize, NoWay}
+use Rattle.refusals.specs.declared.Refusal.{Refusal}
+use Rattle.refusals.specs.declared.Refusal.the-variants.{BadSize, NoWay}
 use Rattle.bitmap.specs.Pixels.{bitOf, cell, badChart}
 use Rattle.bitmap.specs.declared.Chart.{Chart}
 use Rattle.bitmap.specs.declared.Start.{Start}

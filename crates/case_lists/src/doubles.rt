@@ -25,6 +25,6 @@ pub fn put_doubles(values: &[f64], out: &mut [u8], at: usize) -> usize
 fn put_marked(x: f64, mark: u8, out: &mut [u8], at: usize) -> usize
     ensures { λ r. ⌜ record { next = r; out = now (out .exit) } ≡ putAll (doubleText x ∷ (mark ∷ []) ∷ []) (record { next = at; out = now (out .entry) }) ⌝ }
 {
-    let end = texts::put_hex(sqrt::to_bits(x), 16, out, at);
+    let end = texts::put_hex(bits::to_bits(x), 16, out, at);
     texts::put_byte(mark, out, end)
 }

@@ -5,8 +5,8 @@ use mathlib.Core.Path.{_≡_, sym, ap, ap₂, _∙_}
 use denote.Ref.{now}
 use Rattle.texts.specs.Put.{Outcome}
 use Rattle.texts.specs.Text.{naturalText, decimalText}
-use Rattle.point.specs.Refusals.{numberOf, countOf}
-use Rattle.point.specs.declared.Answer.{Answer}
+use Rattle.refusals.specs.Refusals.{numberOf, countOf}
+use Rattle.refusals.specs.declared.Answer.{Answer}
 use Rattle.case_texts.specs.Spaced.{choiceText, doubleText, spaced, counted, ended}
 use Rattle.case_texts.proofs.values.put_word.Reads as put_word
 use Rattle.case_texts.proofs.values.put_choice.Reads as put_choice

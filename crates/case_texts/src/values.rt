@@ -1,7 +1,7 @@
 // Values, each with a space behind it.
 ghost use mathlib.Core.Path.{_≡_};
 ghost use Rattle.texts.specs.Text.{naturalText, decimalText};
-ghost use Rattle.point.specs.Refusals.{numberOf, countOf};
+ghost use Rattle.refusals.specs.Refusals.{numberOf, countOf};
 ghost use Rattle.case_texts.specs.Spaced.{choiceText, doubleText, spaced, counted};
 use point::Answer;
 
@@ -40,7 +40,7 @@ pub fn put_integer(n: i32, out: &mut [u8], at: usize) -> usize
 pub fn put_double(x: f64, out: &mut [u8], at: usize) -> usize
     ensures { λ r. ⌜ record { next = r; out = now (out .exit) } ≡ spaced (doubleText x) (now (out .entry)) at ⌝ }
 {
-    let end = texts::put_hex(sqrt::to_bits(x), 16, out, at);
+    let end = texts::put_hex(bits::to_bits(x), 16, out, at);
     texts::put_byte(b' ', out, end)
 }
 

@@ -7,7 +7,7 @@ ghost use lib.ListN.{length};
 ghost use lib.Signed.{leZ};
 ghost use Rattle.laws.specs.Lists.{over};
 ghost use Rattle.point.specs.Limits.{badPoints};
-ghost use Rattle.point.specs.Refusals.{if_then_else_};
+ghost use Rattle.laws.specs.If.{if_then_else_};
 ghost use Rattle.corners.specs.Corners.{isEnd, isCorner, flag, seen, cornersOf};
 ghost use Rattle.corners.specs.Calls.{fair, findCornersOf};
 ghost use Rattle.corners.specs.Sizes.{Moderate};

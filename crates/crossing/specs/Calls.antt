@@ -1,13 +1,13 @@
 -- What the call answers: "as public calls they refuse (BadPoint) a coordinate out of range, NaN or infinite".
 use mathlib.Core.Bool.{not, _&&_}
 use mathlib.Core.Option.{Option, some, none}
-use Rattle.point.specs.Refusals.{refuse_when_or_}
+use Rattle.refusals.specs.Refusals.{refuse_when_or_}
 use Rattle.point.specs.declared.PointF64.{PointF64}
-use Rattle.point.specs.declared.Refusal.{Refusal}
-use Rattle.point.specs.declared.Refusal.the-variants.{BadPoint}
+use Rattle.refusals.specs.declared.Refusal.{Refusal}
+use Rattle.refusals.specs.declared.Refusal.the-variants.{BadPoint}
 use Rattle.measures.specs.Calls.{fine}
-use Rattle.crossing.specs.declared.Intersection.{Intersection}
-use Rattle.crossing.specs.declared.Intersection.the-variants.{Refused}
+use Rattle.ratios.specs.declared.Intersection.{Intersection}
+use Rattle.ratios.specs.declared.Intersection.the-variants.{Refused}
 use Rattle.crossing.specs.Lines.{crossing}
 
 abbrev pub crossingAnswer : Option Refusal → PointF64 → PointF64 → PointF64 → PointF64 → Intersection

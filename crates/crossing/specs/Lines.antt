@@ -1,11 +1,11 @@
 -- The crossing of two lines, operation by operation as the Rust computes it (util.rs).
 use mathlib.Core.Bool.{Bool, _&&_}
 use lib.Ieee.{Float, binary64, ofBits, neg, add, sub, mul, div, lt}
-use Rattle.point.specs.Refusals.{if_then_else_}
+use Rattle.laws.specs.If.{if_then_else_}
 use Rattle.point.specs.declared.PointF64.{PointF64}
 use Rattle.measures.specs.Lengths.{middle}
-use Rattle.crossing.specs.declared.Intersection.{Intersection}
-use Rattle.crossing.specs.declared.Intersection.the-variants.{Parallel, Coincide, Cross}
+use Rattle.ratios.specs.declared.Intersection.{Intersection}
+use Rattle.ratios.specs.declared.Intersection.the-variants.{Parallel, Coincide, Cross}
 
 -- negligible: between -1e-7 and 1e-7
 abbrev pub tiny : Float

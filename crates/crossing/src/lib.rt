@@ -1,20 +1,8 @@
-// The crossing of two lines, and what it says of them.
+// The crossing of two lines.
 //
-// The call refuses a coordinate out of range. No call takes more stack than its return address, 8 bytes
-// (measured on the x86-64 code).
-mod ratios;
+// The call refuses a coordinate out of range, and takes no more stack than its return address, 8 bytes
+// (measured on the x86-64 code). What a crossing is, and what it says of its lines, stands in `ratios`.
 mod two_lines;
 
-use point::PointF64;
-use point::Refusal;
+pub use ratios::Intersection;
 pub use two_lines::find_intersection;
-
-// Where two lines cross.
-pub enum Intersection {
-    Parallel,
-    // The midpoint of the first line.
-    Coincide(PointF64),
-    // The point, and where it lies on each line: 0 is the line's first point, 1 its second.
-    Cross(PointF64, f64, f64),
-    Refused(Refusal),
-}

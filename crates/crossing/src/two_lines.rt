@@ -2,15 +2,15 @@
 ghost use mathlib.Core.Bool.{_&&_};
 ghost use mathlib.Core.Path.{_≡_};
 ghost use lib.Ieee.{binary64, div};
-ghost use Rattle.point.specs.Refusals.{if_then_else_};
+ghost use Rattle.laws.specs.If.{if_then_else_};
 ghost use Rattle.measures.specs.Lengths.{middle};
-ghost use Rattle.crossing.specs.declared.Intersection.the-variants.{Parallel, Coincide, Cross};
+ghost use Rattle.ratios.specs.declared.Intersection.the-variants.{Parallel, Coincide, Cross};
 ghost use Rattle.crossing.specs.Lines.{negligible, across, crossing};
 ghost use Rattle.crossing.specs.Along.{along};
 ghost use Rattle.crossing.specs.Calls.{intersectionOf};
-use crate::Intersection;
 use point::PointF64;
 use point::Refusal;
+use ratios::Intersection;
 
 // What lies between this and its negative counts as 0.
 const EPSILON: f64 = 0.0000001;

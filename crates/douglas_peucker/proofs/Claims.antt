@@ -13,9 +13,9 @@ use denote.Ref.{now}
 use Rattle.laws.specs.Joined.{both-false}
 use Rattle.point.specs.Limits.{tooMany, badPoints, badSqTolerance}
 use Rattle.point.specs.Points.{points}
-use Rattle.point.specs.Refusals.{countOf}
-use Rattle.point.specs.declared.Answer.the-variants.{Refused}
-use Rattle.point.specs.declared.Refusal.{Refusal}
+use Rattle.refusals.specs.Refusals.{countOf}
+use Rattle.refusals.specs.declared.Answer.the-variants.{Refused}
+use Rattle.refusals.specs.declared.Refusal.{Refusal}
 use Rattle.outline.specs.Points.{count}
 use Rattle.split.specs.Tree.{marksOf}
 use Rattle.keeping.specs.Calls.{shortFor}

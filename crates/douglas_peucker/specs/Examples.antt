@@ -4,8 +4,8 @@ use mathlib.Core.Path.{_≡_, refl}
 use lib.IntN.{pos}
 use lib.Ieee.{nan, binary64, ofInt, le}
 use Rattle.point.specs.Limits.{badList}
-use Rattle.point.specs.declared.Answer.the-variants.{Done, Refused}
-use Rattle.point.specs.declared.Refusal.the-variants.{BadPoint, TooFew, BadTolerance}
+use Rattle.refusals.specs.declared.Answer.the-variants.{Done, Refused}
+use Rattle.refusals.specs.declared.Refusal.the-variants.{BadPoint, TooFew, BadTolerance}
 use Rattle.douglas_peucker.specs.Calls.{douglasPeuckerOf}
 
 -- "Douglas-Peucker of one point gives it twice", and its mark is one 1

@@ -13,9 +13,9 @@ use denote.Ref.{now}
 use Rattle.laws.specs.Lists.{over}
 use Rattle.point.specs.Limits.{placesFor}
 use Rattle.point.specs.Points.{points}
-use Rattle.point.specs.Refusals.{refuse_when_or_}
-use Rattle.point.specs.declared.Answer.the-variants.{Done}
-use Rattle.point.specs.declared.Refusal.{Refusal}
+use Rattle.refusals.specs.Refusals.{refuse_when_or_}
+use Rattle.refusals.specs.declared.Answer.the-variants.{Done}
+use Rattle.refusals.specs.declared.Refusal.{Refusal}
 use Rattle.outline.specs.Points.{count}
 use Rattle.outline.proofs.Flat.{length-points}
 use Rattle.keeping.specs.Calls.{Points, shortFor, handed, keptAllOf, keptMarkedOf, keptAboveOf}

@@ -4,8 +4,8 @@ use mathlib.Core.List.{[], _∷_}
 use mathlib.Core.Path.{_≡_, refl}
 use lib.IntN.{pos}
 use lib.Ieee.{inf, binary64, ofInt, lt}
-use Rattle.point.specs.declared.Answer.the-variants.{Done, Refused}
-use Rattle.point.specs.declared.Refusal.the-variants.{NoRoom}
+use Rattle.refusals.specs.declared.Answer.the-variants.{Done, Refused}
+use Rattle.refusals.specs.declared.Refusal.the-variants.{NoRoom}
 use Rattle.keeping.specs.Calls.{keptAllOf, keptMarkedOf, keptAboveOf}
 
 all-kept : keptAllOf (pos 1 ∷ pos 2 ∷ []) (pos 9 ∷ pos 9 ∷ pos 9 ∷ []) ≡ record { answer = Done 1; out = pos 1 ∷ pos 2 ∷ pos 9 ∷ [] }

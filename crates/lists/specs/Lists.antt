@@ -2,13 +2,9 @@
 use Prim.Native.Nat.{ℕ}
 use mathlib.Core.List.{List, [], _∷_}
 use mathlib.Core.Option.{Option, some, none}
-use lib.Ieee.{Float, binary64, ofBits}
 use lib.IntN.{ℤ}
 use Rattle.laws.specs.If.{if_then_else_}
 use Rattle.line_words.specs.Split.{split}
-use Rattle.digits.specs.Numeral.{patternOf}
-use Rattle.digits.specs.declared.read.Hex.{Hex}
-use Rattle.digits.specs.declared.read.Hex.the-variants as Hex
 use Rattle.decimals.specs.Decimal.{integerOf}
 use Rattle.decimals.specs.declared.integer.Integer.{Integer}
 use Rattle.decimals.specs.declared.integer.Integer.the-variants as Integer
@@ -35,11 +31,3 @@ integerSaid Integer.Not = none
 
 abbrev pub integer : List ℕ → Option ℤ
 integer w = integerSaid (integerOf w)
-
--- a double is the 16 hexadecimal digits of its pattern
-abbrev pub doubleSaid : Hex → Option Float
-doubleSaid (Hex.Is n) = some (ofBits binary64 n)
-doubleSaid Hex.Not = none
-
-abbrev pub double : List ℕ → Option Float
-double w = doubleSaid (patternOf w)

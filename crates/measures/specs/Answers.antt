@@ -2,7 +2,7 @@
 use Prim.Native.Nat.{ℕ}
 use mathlib.Core.List.{List, [], _∷_}
 use lib.Ieee.{Float}
-use Rattle.point.specs.Refusals.{refusalNumber}
+use Rattle.refusals.specs.Refusals.{refusalNumber}
 use Rattle.measures.specs.declared.MidPoint.{MidPoint}
 use Rattle.measures.specs.declared.MidPoint.the-variants as MidPoint
 use Rattle.measures.specs.declared.Measure.{Measure}

@@ -2,11 +2,11 @@
 use mathlib.Core.Bool.{Bool, not, _&&_}
 use mathlib.Core.Option.{Option, some, none}
 use Rattle.point.specs.Limits.{inRange, inRangeF64}
-use Rattle.point.specs.Refusals.{refuse_when_or_}
+use Rattle.refusals.specs.Refusals.{refuse_when_or_}
 use Rattle.point.specs.declared.PointI32.{PointI32}
 use Rattle.point.specs.declared.PointF64.{PointF64}
-use Rattle.point.specs.declared.Refusal.{Refusal}
-use Rattle.point.specs.declared.Refusal.the-variants.{BadPoint}
+use Rattle.refusals.specs.declared.Refusal.{Refusal}
+use Rattle.refusals.specs.declared.Refusal.the-variants.{BadPoint}
 use Rattle.measures.specs.declared.MidPoint.{MidPoint}
 use Rattle.measures.specs.declared.MidPoint.the-variants as MidPoint
 use Rattle.measures.specs.declared.Measure.{Measure}

@@ -3,7 +3,7 @@ use mathlib.Core.Path.{_≡_, refl}
 use lib.IntN.{ℤ, pos, negsuc}
 use lib.Ieee.{binary64, ofInt, add, div, le}
 use Rattle.point.specs.declared.PointF64.{PointF64}
-use Rattle.point.specs.declared.Refusal.the-variants.{BadPoint}
+use Rattle.refusals.specs.declared.Refusal.the-variants.{BadPoint}
 use Rattle.measures.specs.declared.MidPoint.the-variants.{At, Refused}
 use Rattle.measures.specs.Calls.{middleOf}
 

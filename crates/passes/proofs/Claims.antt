@@ -9,10 +9,10 @@ use lib.ListN.{length}
 use denote.Ref.{now}
 use Rattle.laws.specs.Lists.{length-over}
 use Rattle.point.specs.Points.{flat}
-use Rattle.point.specs.Refusals.{countOf}
+use Rattle.refusals.specs.Refusals.{countOf}
 use Rattle.point.specs.declared.PointI32.{PointI32}
-use Rattle.point.specs.declared.Answer.the-variants.{Refused}
-use Rattle.point.specs.declared.Refusal.{Refusal}
+use Rattle.refusals.specs.declared.Answer.the-variants.{Refused}
+use Rattle.refusals.specs.declared.Refusal.{Refusal}
 use Rattle.outline.proofs.Flat.{length-flat}
 use Rattle.passes.specs.Outcomes.{Outcome, refusal, verdict, outcome}
 use Rattle.passes.proofs.judge.Reads.{Post as Judge}

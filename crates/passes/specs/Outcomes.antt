@@ -8,12 +8,12 @@ use lib.ListN.{length}
 use Rattle.laws.specs.Lists.{over}
 use Rattle.point.specs.Limits.{tooMany, badPoints, placesFor}
 use Rattle.point.specs.Points.{flat}
-use Rattle.point.specs.Refusals.{refuse_when_or_}
+use Rattle.refusals.specs.Refusals.{refuse_when_or_}
 use Rattle.point.specs.declared.PointI32.{PointI32}
-use Rattle.point.specs.declared.Answer.{Answer}
-use Rattle.point.specs.declared.Answer.the-variants.{Done, Refused}
-use Rattle.point.specs.declared.Refusal.{Refusal}
-use Rattle.point.specs.declared.Refusal.the-variants.{TooMany, BadPoint, NoRoom}
+use Rattle.refusals.specs.declared.Answer.{Answer}
+use Rattle.refusals.specs.declared.Answer.the-variants.{Done, Refused}
+use Rattle.refusals.specs.declared.Refusal.{Refusal}
+use Rattle.refusals.specs.declared.Refusal.the-variants.{TooMany, BadPoint, NoRoom}
 use Rattle.passes.specs.declared.Verdict.{Verdict}
 use Rattle.passes.specs.declared.Verdict.the-variants.{Fine, Refused as Refused′}
 

@@ -13,7 +13,7 @@ use borrow.Author.Tests.{ltb-true, ltb-false, not-true, not-false}
 use Rattle.laws.specs.Compare.{le-is, le-nan}
 use Rattle.laws.specs.Finite.{ofInt-nonneg}
 use Rattle.laws.specs.Order.{AtLeastZero, ZeroOrMore, at-least-zero, lt-asymmetric, ge-transitive, lt-le-transitive}
-use Rattle.point.specs.Refusals.{if_then_else_}
+use Rattle.laws.specs.If.{if_then_else_}
 use Rattle.penalties.specs.Penalties.{greatest}
 use Rattle.penalties.specs.Parts.{reaches}
 

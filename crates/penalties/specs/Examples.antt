@@ -4,7 +4,7 @@ use mathlib.Core.Path.{_≡_, refl}
 use lib.IntN.{pos}
 use lib.Ieee.{ofInt, add, sub, mul, div, lt, le}
 use Rattle.point.specs.Limits.{badList}
-use Rattle.point.specs.declared.Answer.the-variants.{Done}
+use Rattle.refusals.specs.declared.Answer.the-variants.{Done}
 use Rattle.penalties.specs.Penalties.{penalty, penaltiesOf}
 
 -- P4: `limit_penalties` of (7,7): twice

@@ -8,7 +8,7 @@ use lib.IntN.{ℤ, pos, _-ℤ_, _*ℤ_}
 use lib.Ieee.{Float, binary64, ofInt, add, sub, mul, div, lt, le}
 use lib.ListN.{length, getD}
 use Rattle.point.specs.Points.{points}
-use Rattle.point.specs.Refusals.{if_then_else_}
+use Rattle.laws.specs.If.{if_then_else_}
 use Rattle.point.specs.declared.PointI32.{PointI32}
 use Rattle.sqrt.specs.Root.{rootOf}
 use Rattle.passes.specs.Outcomes.{Outcome, refusal, outcome}

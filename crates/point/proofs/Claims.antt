@@ -10,11 +10,7 @@ use borrow.Author.Tests.{eqb-true, not-false}
 use denote.Ref.{now}
 use Rattle.laws.specs.Integers.{range-true}
 use Rattle.laws.specs.Joined.{both-true, both-false}
-use Rattle.point.specs.Refusals.{refusalNumber, numberOf, countOf}
 use Rattle.point.specs.Limits.{every, inRange, inRangeF64, badList, badPoints, badPointsF64, badTolerance, badSqTolerance, tooMany, placesFor}
-use Rattle.point.proofs.Refusal.number.Reads.{Post as Refusal-number}
-use Rattle.point.proofs.Answer.number.Reads.{Post as Answer-number}
-use Rattle.point.proofs.Answer.count.Reads.{Post as Answer-count}
 use Rattle.point.proofs.limits.too_many.Reads.{Post as Too-many}
 use Rattle.point.proofs.limits.in_range.Reads.{Post as In-range}
 use Rattle.point.proofs.limits.in_range_f64.Reads.{Post as In-range-f64}
@@ -25,15 +21,6 @@ use Rattle.point.proofs.limits.bad_tolerance.Reads.{Post as Bad-toleran
 use Rattle.point.proofs.limits.bad_sq_tolerance.Reads.{Post as Bad-sq-tolerance}
 
 -- ---- each contract leaves no choice: of equal arguments it allows one result. `Post` is the contract itself, as Rattle reads it off the source.
-
-pub refusal-number-determined : (κs : _) (a a′ : _) (r r′ : _) (s s′ : _) → Refusal-number κs a r s → Refusal-number κs a′ r′ s′ → a .0 ≡ a′ .0 → r ≡ r′
-refusal-number-determined κs a a′ r r′ s s′ p q e = p ∙ ap refusalNumber e ∙ sym q
-
-pub answer-number-determined : (κs : _) (a a′ : _) (r r′ : _) (s s′ : _) → Answer-number κs a r s → Answer-number κs a′ r′ s′ → a .0 ≡ a′ .0 → r ≡ r′
-answer-number-determined κs a a′ r r′ s s′ p q e = p ∙ ap numberOf e ∙ sym q
-
-pub answer-count-determined : (κs : _) (a a′ : _) (r r′ : _) (s s′ : _) → Answer-count κs a r s → Answer-count κs a′ r′ s′ → a .0 ≡ a′ .0 → r ≡ r′
-answer-count-determined κs a a′ r r′ s s′ p q e = p ∙ ap countOf e ∙ sym q
 
 pub too-many-determined : (κs : _) (a a′ : _) (r r′ : _) (s s′ : _) → Too-many κs a r s → Too-many κs a′ r′ s′ → a .0 ≡ a′ .0 → r ≡ r′
 too-many-determined κs a a′ r r′ s s′ p q e = p ∙ ap tooMany e ∙ sym q

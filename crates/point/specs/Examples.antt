@@ -1,14 +1,10 @@
 -- Worked examples: antt computes each, so `refl` proves it.
 use mathlib.Core.Bool.{true, false}
 use mathlib.Core.List.{[], _∷_}
-use mathlib.Core.Option.{some, none}
 use mathlib.Core.Path.{_≡_, refl}
 use lib.IntN.{pos, negsuc}
 use lib.Ieee.{binary64, nan, inf, fin, ofInt, ofBits, le}
-use Rattle.point.specs.Refusals.{refuse_when_or_, numberOf, countOf}
 use Rattle.point.specs.Limits.{badList, badPoints, badPointsF64, badTolerance, badSqTolerance}
-use Rattle.point.specs.declared.Answer.the-variants.{Done, Refused}
-use Rattle.point.specs.declared.Refusal.the-variants.{TooMany, BadPoint, NoRoom, BadFrame}
 
 farthest : badPoints (pos 16383 ∷ negsuc 16382 ∷ []) ≡ false
 unfolding badList
@@ -46,13 +42,3 @@ widest = refl
 past-the-widest : badSqTolerance (ofBits binary64 0x41f0000000000001) ≡ true
 unfolding ofBits ofInt le
 past-the-widest = refl
-
--- two apply: the first of the list is given
-lowest : refuse TooMany when false or refuse BadPoint when true or refuse NoRoom when true or none ≡ some BadPoint
-lowest = refl
-
-no-frame-is-11 : numberOf (Refused BadFrame) ≡ 11
-no-frame-is-11 = refl
-
-refused-counts-none : countOf (Refused NoRoom) ≡ 0
-refused-counts-none = refl

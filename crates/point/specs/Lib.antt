@@ -1,5 +1,4 @@
--- The words of every promise: the refusals and their numbers, how they are listed, and the limits that they judge.
-pub mod Refusals
+-- The limits that the refusals judge, and points.
 pub mod Limits
 pub mod Examples
 pub mod Points

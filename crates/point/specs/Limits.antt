@@ -7,7 +7,7 @@ use lib.IntN.{ℤ, pos, negsuc}
 use lib.Signed.{leZ}
 use lib.ListN.{length}
 use lib.Ieee.{Float, binary64, ofInt, le}
-use Rattle.point.specs.Refusals.{if_then_else_}
+use Rattle.laws.specs.If.{if_then_else_}
 
 -- a test holds of every value of a list
 unfoldable pub every : {A : Type 0} → (A → Bool) → List A → Bool

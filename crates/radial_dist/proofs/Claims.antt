@@ -10,9 +10,9 @@ use lib.ListN.{length}
 use denote.Ref.{now}
 use Rattle.point.specs.Limits.{tooMany, badPoints, badSqTolerance}
 use Rattle.point.specs.Points.{points}
-use Rattle.point.specs.Refusals.{countOf}
-use Rattle.point.specs.declared.Answer.the-variants.{Refused}
-use Rattle.point.specs.declared.Refusal.{Refusal}
+use Rattle.refusals.specs.Refusals.{countOf}
+use Rattle.refusals.specs.declared.Answer.the-variants.{Refused}
+use Rattle.refusals.specs.declared.Refusal.{Refusal}
 use Rattle.outline.specs.Points.{count}
 use Rattle.outline.proofs.Flat.{length-points}
 use Rattle.outline.proofs.Room.{places-enough}

@@ -4,7 +4,7 @@ use mathlib.Core.Path.{_≡_, refl}
 use lib.IntN.{pos}
 use lib.Ieee.{binary64, ofInt, lt, le}
 use Rattle.point.specs.Limits.{badList}
-use Rattle.point.specs.declared.Answer.the-variants.{Done}
+use Rattle.refusals.specs.declared.Answer.the-variants.{Done}
 use Rattle.radial_dist.specs.Distance.{sqDist}
 use Rattle.radial_dist.specs.Calls.{radialOf}
 

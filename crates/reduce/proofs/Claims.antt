@@ -14,10 +14,10 @@ use denote.Ref.{now}
 use Rattle.laws.specs.Joined.{both-false}
 use Rattle.point.specs.Limits.{tooMany, badPoints, badTolerance, placesFor}
 use Rattle.point.specs.Points.{flat, points}
-use Rattle.point.specs.Refusals.{countOf}
-use Rattle.point.specs.declared.Answer.the-variants.{Refused}
+use Rattle.refusals.specs.Refusals.{countOf}
+use Rattle.refusals.specs.declared.Answer.the-variants.{Refused}
 use Rattle.point.specs.declared.PointI32.{PointI32}
-use Rattle.point.specs.declared.Refusal.{Refusal}
+use Rattle.refusals.specs.declared.Refusal.{Refusal}
 use Rattle.outline.specs.Points.{count}
 use Rattle.outline.proofs.Flat.{length-points, count-flat}
 use Rattle.outline.proofs.Room.{places-enough, places-shorter}

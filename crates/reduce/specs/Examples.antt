@@ -4,7 +4,7 @@ use mathlib.Core.Path.{_≡_, refl}
 use lib.IntN.{pos}
 use lib.Ieee.{binary64, ofInt, ofBits, add, sub, mul, div, lt, ne, eq, le}
 use Rattle.point.specs.Limits.{badList}
-use Rattle.point.specs.declared.Answer.the-variants.{Done}
+use Rattle.refusals.specs.declared.Answer.the-variants.{Done}
 use Rattle.split.specs.Distance.{sqSegDist}
 use Rattle.reduce.specs.Distance.{sqDist}
 use Rattle.reduce.specs.Calls.{reduceOf}

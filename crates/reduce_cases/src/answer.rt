@@ -28,7 +28,7 @@ pub fn answer(line: &[u8], out: &mut [u8], at: usize) -> usize {
     let Read::Is(n) = lists::read_integers(lines::word(line, 2), b',', &mut list) else {
         return at;
     };
-    reduced(line, sqrt::from_bits(tolerance), &list[0..n], out, at)
+    reduced(line, bits::from_bits(tolerance), &list[0..n], out, at)
 }
 
 // The same with the tolerance and the points, which all calls but `numbers` have.

@@ -3,7 +3,7 @@
 use crate::answer::MOST;
 use crate::lent::ROOM;
 use crate::lent::VALUE;
-use lists::Read;
+use double_lists::Read;
 
 // What places of a lent buffer hold before the call.
 const NUMBER: f64 = -99999.0;
@@ -26,7 +26,7 @@ pub fn zoom(line: &[u8], tolerance: f64, points: &[i32], out: &mut [u8], at: usi
         return at;
     }
     let mut numbers = [0.0f64; MOST];
-    let Read::Is(n) = lists::read_doubles(lines::word(line, 3), b',', &mut numbers) else {
+    let Read::Is(n) = double_lists::read_doubles(lines::word(line, 3), b',', &mut numbers) else {
         return at;
     };
     let mut places = [VALUE; ROOM];

@@ -6,7 +6,7 @@ use lib.Ieee.{Float}
 use lib.IntN.{ℤ}
 use lib.ListN.{length}
 use denote.Ref.{now}
-use Rattle.point.specs.Refusals.{numberOf, countOf}
+use Rattle.refusals.specs.Refusals.{numberOf, countOf}
 use Rattle.reduce.specs.Calls.{reduceOf, numberedOf}
 use Rattle.texts.specs.Put.{Outcome, put}
 use Rattle.replies.specs.Room.{room, marks, numberRoom}

@@ -8,8 +8,8 @@ use lib.IntN.{ℤ, pos}
 use lib.ListN.{length, take, replicate, length-replicate}
 use mir.Syntax.{w64}
 use mir.Val.{Fits}
-use Rattle.point.specs.Refusals.{numberOf, countOf}
-use Rattle.point.specs.declared.Answer.{Answer}
+use Rattle.refusals.specs.Refusals.{numberOf, countOf}
+use Rattle.refusals.specs.declared.Answer.{Answer}
 use Rattle.reduce.specs.Calls.{Reduced, Numbered, reduceOf, numberedOf}
 use Rattle.reduce.proofs.Claims.{reduce-fits, numbers-fit}
 use Rattle.texts.specs.Put.{put}

@@ -2,7 +2,7 @@
 use Prim.Native.Nat.{ℕ, _*_}
 use mathlib.Core.List.{List}
 use lib.ListN.{take}
-use Rattle.point.specs.Refusals.{numberOf, countOf}
+use Rattle.refusals.specs.Refusals.{numberOf, countOf}
 use Rattle.reduce.specs.Calls.{Reduced, Numbered}
 use Rattle.replies.specs.Reply.{pointsText, numbersText}
 

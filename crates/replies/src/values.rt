@@ -40,7 +40,7 @@ pub fn put_numbers(kind: u8, number: u8, values: &[f64], out: &mut [u8], at: usi
     let mut end = put_head(kind, number, values.len(), out, at);
     let mut i = 0;
     while i < values.len() {
-        end = texts::put_hex(sqrt::to_bits(values[i]), 16, out, end);
+        end = texts::put_hex(bits::to_bits(values[i]), 16, out, end);
         i += 1;
     }
     end

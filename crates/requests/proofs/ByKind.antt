@@ -9,7 +9,7 @@ use lib.IntN.{ℤ}
 use lib.ListN.{length, getD, drop}
 use borrow.Author.Tests.{eqb-true, ne-eqb, le-ltb, lt-ltb, not-true, not-false}
 use Rattle.laws.specs.Joined.{both-true}
-use Rattle.point.specs.Refusals.{if_then_else_}
+use Rattle.laws.specs.If.{if_then_else_}
 use Rattle.point.specs.declared.PointI32.{PointI32}
 use Rattle.bitmap.specs.Pixels.{rowBytes}
 use Rattle.bitmap.specs.declared.Chart.{Chart}

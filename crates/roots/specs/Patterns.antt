@@ -8,12 +8,11 @@ use native.Mathlib.Nat.{le-refl, lt-of-lt-of-le, lt-of-le-of-lt, eq-or-lt-of-le,
 use native.Mathlib.Omega.{arith}
 use lib.IntN.{ℤ}
 use lib.Dec.{leb, eqb}
-use lib.Ieee.{Float, nan, inf, fin, Format, prec, emax, low, up, down, size, units, hid, ones, top, isNan, ofFields, ofBits, toBits}
-use lib.Ieee.Bits.{nanBits-is, nanBits-above}
+use lib.Ieee.{Float, nan, inf, fin, Format, prec, emax, low, up, down, size, units, hid, ones, top, ofFields, ofBits, toBits}
 use lib.Ieee.Exact.{HasValue, odd-sign, units-val}
 use lib.Ieee.Fits.{two, down-pos}
 use lib.Pow.{pow-add, pow-pos, pow-lt}
-use borrow.Author.Tests.{lt-ltb, lt-leb, le-leb, ne-eqb, eqb-false}
+use borrow.Author.Tests.{lt-leb, le-leb, ne-eqb, eqb-false}
 use Rattle.roots.specs.Nearest.{NearestWhole}
 use Rattle.roots.specs.Root.{nearestRoot, rootOf}
 use Rattle.roots.specs.NearestRoot.{size-is, digits-are, nearest-whole, nearest-long}
@@ -95,15 +94,6 @@ bits-of-root f N k r long short near most fine =
 reads-fields : (f : Format) (b : ℕ) → ofBits f b ≡ ofFields f (leb (top f) b) (b % top f / hid f) (b % hid f)
 unfolding ofBits
 reads-fields f b = refl
-
-pub reads-nan : (f : Format) (b : ℕ) → ones f * hid f < b % top f → ofBits f b ≡ nan
-unfolding isNan
-reads-nan f b h = is-nan (ofBits f b) (sym (nanBits-is f b) ∙ nanBits-above f b ∙ lt-ltb _ _ h)
-  where
-    is-nan : (x : Float) → isNan x ≡ true → x ≡ nan
-    is-nan nan e = refl
-    is-nan (inf s) e = absurd (true≢false (sym e))
-    is-nan (fin s m d) e = absurd (true≢false (sym e))
 
 -- digits t alone, and digits t under a field that is neither 0 nor that of the infinities: so many units
 digits-value : (f : Format) (s : Bool) (t : ℕ) → HasValue (ofFields f s 0 t) s t (2 ^ low f)

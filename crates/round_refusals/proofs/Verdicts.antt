@@ -11,9 +11,10 @@ use lib.ListN.{length}
 use borrow.Author.Tests.{ltb-false, eqb-true, not-false}
 use Rattle.laws.specs.Joined.{both-false}
 use Rattle.point.specs.Limits.{tooMany, badPointsF64, every}
-use Rattle.point.specs.Refusals.{refuse_when_or_, if_then_else_}
-use Rattle.point.specs.declared.Refusal.{Refusal}
-use Rattle.point.specs.declared.Refusal.the-variants.{TooMany, BadPoint, TooFew, BadFlags, BadSettings, NoRoom}
+use Rattle.laws.specs.If.{if_then_else_}
+use Rattle.refusals.specs.Refusals.{refuse_when_or_}
+use Rattle.refusals.specs.declared.Refusal.{Refusal}
+use Rattle.refusals.specs.declared.Refusal.the-variants.{TooMany, BadPoint, TooFew, BadFlags, BadSettings, NoRoom}
 use Rattle.scheme.specs.declared.Settings.{Settings}
 use Rattle.scheme.specs.Places.{count}
 use Rattle.round_refusals.specs.declared.Verdict.{Verdict}

@@ -8,9 +8,10 @@ use lib.IntN.{pos}
 use lib.Ieee.{Float, binary64, ofInt}
 use lib.ListN.{length}
 use Rattle.point.specs.Limits.{tooMany, badPointsF64, within, every}
-use Rattle.point.specs.Refusals.{if_then_else_, refuse_when_or_}
-use Rattle.point.specs.declared.Refusal.{Refusal}
-use Rattle.point.specs.declared.Refusal.the-variants.{TooMany, BadPoint, TooFew, BadFlags, BadSettings, NoRoom}
+use Rattle.laws.specs.If.{if_then_else_}
+use Rattle.refusals.specs.Refusals.{refuse_when_or_}
+use Rattle.refusals.specs.declared.Refusal.{Refusal}
+use Rattle.refusals.specs.declared.Refusal.the-variants.{TooMany, BadPoint, TooFew, BadFlags, BadSettings, NoRoom}
 use Rattle.scheme.specs.declared.Settings.{Settings}
 use Rattle.scheme.specs.Places.{count}
 use Rattle.round_refusals.specs.declared.Verdict.{Verdict}

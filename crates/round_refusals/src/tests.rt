@@ -5,7 +5,7 @@ ghost use mathlib.Core.Path.{_≡_};
 ghost use lib.Dec.{eqb, leb, ltb};
 ghost use lib.ListN.{length};
 ghost use Rattle.point.specs.Limits.{within, every};
-ghost use Rattle.point.specs.Refusals.{if_then_else_};
+ghost use Rattle.laws.specs.If.{if_then_else_};
 ghost use Rattle.round_refusals.specs.Judged.{isFlag, badSettings, placesFor};
 use scheme::Settings;
 

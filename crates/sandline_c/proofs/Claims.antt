@@ -17,26 +17,26 @@ use Rattle.bitmap.specs.Area.{areaOf}
 use Rattle.bitmap.specs.Pixels.{pixelAt}
 use Rattle.bitmap.specs.Start.{firstStart}
 use Rattle.corners.specs.Calls.{findCornersOf}
-use Rattle.crossing.specs.Answers.{intersectionValues}
+use Rattle.ratios.specs.Answers.{intersectionValues}
 use Rattle.crossing.specs.Calls.{intersectionOf}
-use Rattle.crossing.specs.Ratios.{outsideOf, insideOf, coincideOf}
-use Rattle.crossing.specs.declared.Intersection.{Intersection}
-use Rattle.crossing.specs.declared.Intersection.the-variants as Case
+use Rattle.ratios.specs.Ratios.{outsideOf, insideOf, coincideOf}
+use Rattle.ratios.specs.declared.Intersection.{Intersection}
+use Rattle.ratios.specs.declared.Intersection.the-variants as Case
 use Rattle.frames.specs.Reply.{answerTo}
 use Rattle.measures.specs.Calls.{middleOf, normOf, normOfI32}
 use Rattle.outline.specs.Points.{pointAt}
 use Rattle.reduce.specs.Calls.{radialOf, douglasPeuckerOf, reduceOf, numberedOf, zoomOf}
 use Rattle.simplify.specs.Calls.{staircaseOf, penaltiesOf, simplifyOf}
-use Rattle.smooth.specs.Calls.{subdividedOf}
-use Rattle.spiral.specs.Spiral.{freshSpiral, advanced}
-use Rattle.spiral.specs.declared.SpiralWalker.{SpiralWalker}
+use Rattle.rounds.specs.Calls.{subdividedOf}
+use Rattle.spirals.specs.Spiral.{freshSpiral, advanced}
+use Rattle.spirals.specs.declared.SpiralWalker.{SpiralWalker}
 use Rattle.sqrt.specs.Root.{rootOf}
 use Rattle.texts.specs.Put.{put, Outcome as Text}
 use Rattle.util.specs.Area.{signedAreaOf}
 use Rattle.walks.specs.Walk.{walked as walkOf}
 use Rattle.sandline_c.specs.Handed.{Counted, Valued, passed, points, numbered, flagged, marked, reduced, walked, subdivided, crossing, started, celled, signed, midway, measured, begun, advancedTo}
 use Rattle.sandline_c.specs.Read.{chart, point, place, placeAt, pair, settings, crossed}
-use Rattle.sandline_c.specs.declared.spirals.Begun.{Begun}
+use Rattle.sandline_c.specs.declared.spiralling.Begun.{Begun}
 use Rattle.sandline_c.proofs.geometry.sandline_sqrt.Reads.{Post as Sqrt}
 use Rattle.sandline_c.proofs.geometry.sandline_sqrt_bits.Reads.{Post as Sqrt-bits}
 use Rattle.sandline_c.proofs.geometry.sandline_signed_area.Reads.{Post as Signed-area}
@@ -62,8 +62,8 @@ use Rattle.sandline_c.proofs.thinning.sandline_simplify_douglas_peucker
 use Rattle.sandline_c.proofs.thinning.sandline_reduce.Reads.{Post as Reduce}
 use Rattle.sandline_c.proofs.thinning.sandline_numbers.Reads.{Post as Numbers}
 use Rattle.sandline_c.proofs.thinning.sandline_zoom.Reads.{Post as Zoom}
-use Rattle.sandline_c.proofs.spirals.sandline_spiral as spiral
-use Rattle.sandline_c.proofs.spirals.sandline_spiral_advance as spiral-advance
+use Rattle.sandline_c.proofs.spiralling.sandline_spiral as spiral
+use Rattle.sandline_c.proofs.spiralling.sandline_spiral_advance as spiral-advance
 
 -- ---- each contract leaves no choice. `Post` is the contract itself, as Rattle reads it off the source, at arguments `a`, a result `r` and parameters at exit `s`.
 -- Where it reads the same of two calls' arguments, `given`, they tell the same: `told` is the result with the last contents of all that was lent.

@@ -9,10 +9,10 @@ use lib.Ieee.{Float}
 use lib.IntN.{ℤ, pos}
 use lib.ListN.{getD}
 use borrow.Author.Needs.{needs}
-use Rattle.point.specs.Refusals.{refusalNumber}
+use Rattle.refusals.specs.Refusals.{refusalNumber}
 use Rattle.point.specs.declared.PointF64.{PointF64}
 use Rattle.point.specs.declared.PointI32.{PointI32}
-use Rattle.point.specs.declared.Refusal.{Refusal}
+use Rattle.refusals.specs.declared.Refusal.{Refusal}
 use Rattle.bitmap.specs.Answers.{cellsNumber, cellsCount}
 use Rattle.bitmap.specs.declared.Cells.{Cells}
 use Rattle.bitmap.specs.declared.Start.{Start}
@@ -23,12 +23,12 @@ use Rattle.measures.specs.declared.Measure.the-variants as Measure
 use Rattle.measures.specs.declared.MidPoint.{MidPoint}
 use Rattle.measures.specs.declared.MidPoint.the-variants as MidPoint
 use Rattle.outline.specs.Points.{pointAt}
-use Rattle.spiral.specs.declared.Advanced.{Advanced}
-use Rattle.spiral.specs.declared.Advanced.the-variants as Advanced
-use Rattle.spiral.specs.declared.AdvancedOutcome.{AdvancedOutcome}
-use Rattle.spiral.specs.declared.Fresh.{Fresh}
-use Rattle.spiral.specs.declared.Fresh.the-variants as Fresh
-use Rattle.spiral.specs.declared.SpiralWalker.{SpiralWalker}
+use Rattle.spirals.specs.declared.Advanced.{Advanced}
+use Rattle.spirals.specs.declared.Advanced.the-variants as Advanced
+use Rattle.spirals.specs.declared.AdvancedOutcome.{AdvancedOutcome}
+use Rattle.spirals.specs.declared.Fresh.{Fresh}
+use Rattle.spirals.specs.declared.Fresh.the-variants as Fresh
+use Rattle.spirals.specs.declared.SpiralWalker.{SpiralWalker}
 use Rattle.util.specs.Area.{signedAreaOf}
 use Rattle.util.specs.declared.Signed.{Signed}
 use Rattle.util.specs.declared.Signed.the-variants as Signed

@@ -5,13 +5,13 @@ use lib.Dec.{eqb}
 use lib.Ieee.{Float, nan}
 use lib.IntN.{ℤ}
 use lib.ListN.{length, getD}
-use Rattle.point.specs.Refusals.{if_then_else_}
+use Rattle.laws.specs.If.{if_then_else_}
 use Rattle.point.specs.declared.PointI32.{PointI32}
 use Rattle.point.specs.declared.PointF64.{PointF64}
 use Rattle.bitmap.specs.declared.Chart.{Chart}
 use Rattle.corners.specs.declared.Pair.{Pair}
-use Rattle.crossing.specs.declared.Intersection.{Intersection}
-use Rattle.crossing.specs.declared.Intersection.the-variants.{Parallel, Coincide, Cross}
+use Rattle.ratios.specs.declared.Intersection.{Intersection}
+use Rattle.ratios.specs.declared.Intersection.the-variants.{Parallel, Coincide, Cross}
 use Rattle.scheme.specs.declared.Settings.{Settings}
 
 abbrev pub chart : ℕ → ℕ → Chart

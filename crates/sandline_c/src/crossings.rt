@@ -2,9 +2,9 @@
 ghost use Prim.Native.Nat.{_≤_};
 ghost use mathlib.Core.Path.{_≡_};
 ghost use lib.ListN.{length};
-ghost use Rattle.crossing.specs.Answers.{intersectionValues};
+ghost use Rattle.ratios.specs.Answers.{intersectionValues};
 ghost use Rattle.crossing.specs.Calls.{intersectionOf};
-ghost use Rattle.crossing.specs.Ratios.{outsideOf, insideOf, coincideOf};
+ghost use Rattle.ratios.specs.Ratios.{outsideOf, insideOf, coincideOf};
 ghost use Rattle.sandline_c.specs.Handed.{laid, crossing};
 ghost use Rattle.sandline_c.specs.Read.{placeAt, crossed};
 use crossing::Intersection;

@@ -11,5 +11,5 @@ mod geometry;
 mod handing;
 mod overlay;
 mod smoothing;
-mod spirals;
+mod spiralling;
 mod thinning;

@@ -1,7 +1,7 @@
 // Corners, and one round of subdivision.
 ghost use mathlib.Core.Path.{_≡_};
 ghost use Rattle.corners.specs.Calls.{findCornersOf};
-ghost use Rattle.smooth.specs.Calls.{subdividedOf};
+ghost use Rattle.rounds.specs.Calls.{subdividedOf};
 ghost use Rattle.sandline_c.specs.Handed.{flagged, subdivided};
 ghost use Rattle.sandline_c.specs.Read.{pair, settings};
 use crate::handing::hand;

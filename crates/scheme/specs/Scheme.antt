@@ -3,7 +3,7 @@
 use mathlib.Core.Bool.{Bool, not, _||_}
 use lib.IntN.{pos}
 use lib.Ieee.{Float, binary64, ofInt, ofBits, add, sub, mul, div, lt, le}
-use Rattle.point.specs.Refusals.{if_then_else_}
+use Rattle.laws.specs.If.{if_then_else_}
 use Rattle.point.specs.declared.PointF64.{PointF64}
 use Rattle.measures.specs.Lengths.{middle, lengthOf}
 use Rattle.scheme.specs.declared.Settings.{Settings}

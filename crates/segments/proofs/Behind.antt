@@ -8,7 +8,7 @@ use lib.Dec.{leb, ltb}
 use lib.Ieee.{Float}
 use lib.ListN.{length}
 use borrow.Author.Tests.{lt-ltb, le-leb}
-use Rattle.point.specs.Refusals.{if_then_else_}
+use Rattle.laws.specs.If.{if_then_else_}
 use Rattle.point.specs.declared.PointF64.{PointF64}
 use Rattle.scheme.specs.Places.{count}
 use Rattle.scheme.specs.declared.Settings.{Settings}

@@ -7,7 +7,7 @@ use mathlib.Core.Option.{Option, some, none}
 use lib.Dec.{eqb, leb, ltb}
 use lib.Ieee.{Float, lt, le}
 use lib.ListN.{length, getD}
-use Rattle.point.specs.Refusals.{if_then_else_}
+use Rattle.laws.specs.If.{if_then_else_}
 use Rattle.point.specs.declared.PointF64.{PointF64}
 use Rattle.scheme.specs.Places.{count, placeAt}
 use Rattle.scheme.specs.Scheme.{distance, newPoint, twice, placedBy}

@@ -4,7 +4,7 @@ ghost use mathlib.Core.Bool.{_&&_};
 ghost use mathlib.Core.Path.{_≡_};
 ghost use lib.Dec.{eqb};
 ghost use lib.ListN.{length};
-ghost use Rattle.point.specs.Refusals.{if_then_else_};
+ghost use Rattle.laws.specs.If.{if_then_else_};
 ghost use Rattle.scheme.specs.Places.{count, placeAt};
 ghost use Rattle.segments.specs.Segments.{isCorner, prevOf, nextOf};
 use point::PointF64;

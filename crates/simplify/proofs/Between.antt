@@ -12,8 +12,8 @@ use lib.ListN.{length, take}
 use Rattle.laws.specs.Lists.{take-over-all}
 use Rattle.point.specs.Limits.{placesFor}
 use Rattle.point.specs.Points.{flat, points}
-use Rattle.point.specs.Refusals.{countOf}
-use Rattle.point.specs.declared.Answer.{Answer}
+use Rattle.refusals.specs.Refusals.{countOf}
+use Rattle.refusals.specs.declared.Answer.{Answer}
 use Rattle.point.specs.declared.PointI32.{PointI32}
 use Rattle.outline.specs.Points.{count}
 use Rattle.outline.proofs.Flat.{length-flat, length-points, count-flat}

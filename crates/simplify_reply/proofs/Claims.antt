@@ -6,7 +6,7 @@ use mathlib.Core.Path.{_≡_, sym, _∙_}
 use lib.IntN.{ℤ}
 use lib.ListN.{length}
 use denote.Ref.{now}
-use Rattle.point.specs.Refusals.{numberOf, countOf}
+use Rattle.refusals.specs.Refusals.{numberOf, countOf}
 use Rattle.simplify.specs.Calls.{simplifyOf}
 use Rattle.texts.specs.Put.{Outcome, put}
 use Rattle.replies.specs.Room.{room}

@@ -8,17 +8,13 @@ use native.Mathlib.Omega.{arith}
 use lib.Ieee.{Float}
 use lib.ListN.{length}
 use denote.Ref.{now}
-use Rattle.point.specs.declared.Refusal.{Refusal}
+use Rattle.refusals.specs.declared.Refusal.{Refusal}
 use Rattle.scheme.specs.declared.Settings.{Settings}
-use Rattle.smooth.specs.declared.Subdivided.the-variants.{Refused}
+use Rattle.rounds.specs.declared.Subdivided.the-variants.{Refused}
 use Rattle.round_refusals.specs.Judged.{seen, refusal}
-use Rattle.smooth.specs.Round.{roundOf}
-use Rattle.smooth.specs.Answers.{subdividedNumber, subdividedCount, subdividedFinished}
-use Rattle.smooth.specs.Calls.{Outcome, outcome, subdividedOf}
+use Rattle.rounds.specs.Round.{roundOf}
+use Rattle.rounds.specs.Calls.{Outcome, outcome, subdividedOf}
 use Rattle.smooth.proofs.Turns.{twice-at-most, flag-for-each}
-use Rattle.smooth.proofs.Subdivided.number.Reads.{Post as Number}
-use Rattle.smooth.proofs.Subdivided.count.Reads.{Post as Count}
-use Rattle.smooth.proofs.Subdivided.finished.Reads.{Post as Finished}
 use Rattle.smooth.proofs.round.subdivide_keep_corners.Reads.{Post as Subdivide}
 
 -- ---- the contract leaves no choice: of equal arguments it allows one answer, and one last content of both buffers. `Post` is the contract
@@ -34,15 +30,6 @@ subdivide-determined κs a a′ r r′ s s′ p q points corners settings closed
     ≡ subdividedOf (now (a′ .0)) (now (a′ .1 .0)) (a′ .1 .1 .0) (a′ .1 .1 .1 .0) (now (a′ .1 .1 .1 .1 .0)) (now (a′ .1 .1 .1 .1 .1 .0))
     = rw (points, corners, settings, closed, out, flags) in
     p ∙ same ∙ sym q
-
-pub number-determined : (κs : _) (a a′ : _) (r r′ : _) (s s′ : _) → Number κs a r s → Number κs a′ r′ s′ → a .0 ≡ a′ .0 → r ≡ r′
-number-determined κs a a′ r r′ s s′ p q e = p ∙ ap subdividedNumber e ∙ sym q
-
-pub count-determined : (κs : _) (a a′ : _) (r r′ : _) (s s′ : _) → Count κs a r s → Count κs a′ r′ s′ → a .0 ≡ a′ .0 → r ≡ r′
-count-determined κs a a′ r r′ s s′ p q e = p ∙ ap subdividedCount e ∙ sym q
-
-pub finished-determined : (κs : _) (a a′ : _) (r r′ : _) (s s′ : _) → Finished κs a r s → Finished κs a′ r′ s′ → a .0 ≡ a′ .0 → r ≡ r′
-finished-determined κs a a′ r r′ s s′ p q e = p ∙ ap subdividedFinished e ∙ sym q
 
 -- ---- a refusal changes no buffer
 

@@ -12,7 +12,7 @@ use Rattle.point.specs.declared.PointF64.{PointF64}
 use Rattle.scheme.specs.declared.Settings.{Settings}
 use Rattle.scheme.specs.Places.{placeAt}
 use Rattle.segments.specs.Segments.{settled, after, enteringBehind}
-use Rattle.smooth.specs.Round.{Made, with-entered, madeFrom}
+use Rattle.rounds.specs.Round.{Made, with-entered, madeFrom}
 use Rattle.round_refusals.specs.Judged.{roomFor}
 use Rattle.smooth.specs.Parts.{listOf, flagsOf, turnPoints, turnFlags, turnSettled}
 

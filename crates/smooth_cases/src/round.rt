@@ -3,7 +3,7 @@ use crate::answer::FLAG;
 use crate::answer::MOST;
 use crate::answer::ROOM;
 use digits::Hex;
-use lists::Read;
+use double_lists::Read;
 use smooth::Settings;
 
 // What places of a lent buffer of points hold before the call.
@@ -17,11 +17,11 @@ pub fn subdivide(line: &[u8], closed: bool, out: &mut [u8], at: usize) -> usize 
         return at;
     };
     let settings = Settings {
-        ratio: sqrt::from_bits(ratio),
-        length: sqrt::from_bits(length),
+        ratio: bits::from_bits(ratio),
+        length: bits::from_bits(length),
     };
     let mut points = [0.0f64; MOST];
-    let Read::Is(n) = lists::read_doubles(lines::word(line, 4), b',', &mut points) else {
+    let Read::Is(n) = double_lists::read_doubles(lines::word(line, 4), b',', &mut points) else {
         return at;
     };
     let mut corners = [0u8; ROOM];

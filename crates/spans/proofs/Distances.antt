@@ -20,7 +20,7 @@ use Rattle.laws.specs.Finite.{Below, Big, NonNeg, below-mono, ofInt-below, add-
 use Rattle.laws.specs.Order.{AtLeastZero, at-least-zero}
 use Rattle.laws.specs.Whole.{Whole, ofInt-whole, zero-whole, sub-whole, whole-big}
 use Rattle.laws.specs.WholeTests.{ne-true-whole}
-use Rattle.point.specs.Refusals.{if_then_else_}
+use Rattle.laws.specs.If.{if_then_else_}
 use Rattle.point.specs.declared.PointI32.{PointI32}
 use Rattle.point.specs.declared.PointF64.{PointF64}
 use Rattle.spans.specs.Distance.{zero64, one64, placeOf, squares, along, hasLength, nearest, foot, fromPlace, sqSegDist}

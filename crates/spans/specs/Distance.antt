@@ -1,7 +1,7 @@
 -- The squared distance from a point to a segment, operation by operation as the Rust computes it (reduce.rs, get_sq_seg_dist on i32 points).
 use mathlib.Core.Bool.{Bool, _||_}
 use lib.Ieee.{Float, binary64, ofInt, ofBits, add, sub, mul, div, lt, ne}
-use Rattle.point.specs.Refusals.{if_then_else_}
+use Rattle.laws.specs.If.{if_then_else_}
 use Rattle.point.specs.declared.PointI32.{PointI32}
 use Rattle.point.specs.declared.PointF64.{PointF64}
 use Rattle.spans.specs.declared.distance.Segment.{Segment}

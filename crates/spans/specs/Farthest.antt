@@ -5,7 +5,7 @@ use mathlib.Core.List.{List}
 use lib.Dec.{ltb}
 use lib.IntN.{ℤ}
 use lib.Ieee.{Float, neg, lt}
-use Rattle.point.specs.Refusals.{if_then_else_}
+use Rattle.laws.specs.If.{if_then_else_}
 use Rattle.outline.specs.Points.{count, pointAt}
 use Rattle.spans.specs.Distance.{one64, placeOf, segmentOf, sqSegDist}
 use Rattle.spans.specs.declared.distance.Segment.{Segment}

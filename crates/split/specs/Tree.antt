@@ -8,7 +8,7 @@ use lib.IntN.{ℤ}
 use lib.Ieee.{Float, inf, lt}
 use lib.ListN.{replicate}
 use Rattle.laws.specs.Least.{least}
-use Rattle.point.specs.Refusals.{if_then_else_}
+use Rattle.laws.specs.If.{if_then_else_}
 pub use Rattle.outline.specs.Points.{count, pointAt}
 pub use Rattle.spans.specs.Farthest.{distanceIn}
 unfoldable pub use Rattle.spans.specs.Farthest.{farthest}

@@ -3,8 +3,6 @@ use mathlib.Core.Path.{_≡_, sym, ap, _∙_}
 use Prim.Native.Nat.{ℕ}
 use lib.Ieee.{binary64, toBits, ofBits}
 use Rattle.sqrt.specs.Root.{rootOf}
-use Rattle.sqrt.proofs.bits.to_bits.Reads as ToBits
-use Rattle.sqrt.proofs.bits.from_bits.Reads as FromBits
 use Rattle.sqrt.proofs.root.sqrt.Reads as Sqrt
 use Rattle.sqrt.proofs.root.sqrt_bits.Reads as SqrtBits
 -- The definition: the root fits the format, no value of the format is nearer to the exact root, and that of an exact square is exact.
@@ -12,14 +10,6 @@ pub use Rattle.roots.specs.Claims.{whole-root, whole-root-only, root-fits, in-u
 
 -- Each contract leaves no choice: equal arguments allow one result. `Post` is the contract itself, as Rattle reads it off the source, at
 -- arguments `a`, a result `r` and parameters at exit `s`.
-pub to-bits-determined : (κs : _) (a a′ : _) (r r′ : _) (s s′ : _) →
-    ToBits.Post κs a r s → ToBits.Post κs a′ r′ s′ → a .0 ≡ a′ .0 → r ≡ r′
-to-bits-determined κs a a′ r r′ s s′ p q e = p ∙ ap (toBits binary64) e ∙ sym q
-
-pub from-bits-determined : (κs : _) (a a′ : _) (r r′ : _) (s s′ : _) →
-    FromBits.Post κs a r s → FromBits.Post κs a′ r′ s′ → a .0 ≡ a′ .0 → r ≡ r′
-from-bits-determined κs a a′ r r′ s s′ p q e = p ∙ ap (ofBits binary64) e ∙ sym q
-
 pub sqrt-determined : (κs : _) (a a′ : _) (r r′ : _) (s s′ : _) →
     Sqrt.Post κs a r s → Sqrt.Post κs a′ r′ s′ → a .0 ≡ a′ .0 → r ≡ r′
 sqrt-determined κs a a′ r r′ s s′ p q e = p ∙ ap (rootOf binary64) e ∙ sym q

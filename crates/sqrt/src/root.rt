@@ -5,7 +5,6 @@ ghost use Prim.Native.Nat.{_+_, _-_, _*_, _^_, _<_, _≤_};
 ghost use lib.Ieee.{binary64, toBits, ofBits};
 ghost use Rattle.sqrt.specs.Nearest.{NearestWhole, Found};
 ghost use Rattle.sqrt.specs.Root.{nearestRoot, rootOf};
-use crate::bits;
 
 // The weight of the leading one of a significand's 53 digits, its root, and the root of that.
 const LEADING: u64 = 0x10_0000_0000_0000;

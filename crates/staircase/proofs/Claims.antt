@@ -7,8 +7,8 @@ use lib.IntN.{ℤ}
 use lib.ListN.{length}
 use denote.Ref.{now}
 use Rattle.point.specs.Points.{points}
-use Rattle.point.specs.declared.Answer.the-variants.{Refused}
-use Rattle.point.specs.declared.Refusal.{Refusal}
+use Rattle.refusals.specs.declared.Answer.the-variants.{Refused}
+use Rattle.refusals.specs.declared.Refusal.{Refusal}
 use Rattle.outline.proofs.Flat.{length-points}
 use Rattle.passes.specs.Outcomes.{Outcome, refusal, verdict}
 use Rattle.passes.proofs.Claims.{Fitting, outcome-unchanged, outcome-fitting}

@@ -6,7 +6,7 @@ use lib.Dec.{eqb}
 use lib.IntN.{ℤ, pos, natAbs, _-ℤ_}
 use lib.ListN.{length}
 use lib.Signed.{ltZ}
-use Rattle.point.specs.Refusals.{if_then_else_}
+use Rattle.laws.specs.If.{if_then_else_}
 use Rattle.point.specs.declared.PointI32.{PointI32}
 use Rattle.point.specs.Points.{points}
 use Rattle.util.specs.Area.{signedArea}

@@ -9,13 +9,13 @@ use lib.Ieee.{Float, inf, binary64, ofInt, ofBits, add, sub, mul, div, lt, ne, e
 use lib.ListN.{replicate}
 use Rattle.point.specs.Limits.{badList}
 use Rattle.point.specs.Points.{flat}
-use Rattle.point.specs.declared.Answer.the-variants as Answer
+use Rattle.refusals.specs.declared.Answer.the-variants as Answer
 use Rattle.point.specs.declared.PointI32.{PointI32}
 use Rattle.bitmap.specs.Pixels.{badChart, pixelAt}
 use Rattle.bitmap.specs.declared.Chart.{Chart}
 use Rattle.walks.specs.Walk.{walked}
 use Rattle.walks.specs.declared.Walked.the-variants as Walked
-use Rattle.spiral.specs.Spiral.{pointsOf, spiralPoints}
+use Rattle.spirals.specs.Spiral.{pointsOf, spiralPoints}
 use Rattle.simplify.specs.Penalties.{penalty}
 use Rattle.simplify.specs.Calls.{staircaseOf, penaltiesOf, simplifyOf}
 use Rattle.split.specs.Distance.{sqSegDist}

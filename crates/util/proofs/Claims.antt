@@ -2,7 +2,7 @@
 use mathlib.Core.Bool.{true, false, _&&_}
 use mathlib.Core.Path.{_≡_, sym, ap, _∙_}
 use Rattle.point.specs.declared.PointI32.{PointI32}
-use Rattle.point.specs.declared.Refusal.the-variants.{BadPoint}
+use Rattle.refusals.specs.declared.Refusal.the-variants.{BadPoint}
 use Rattle.util.specs.Area.{crossOf, pointFine, signedArea, signedAreaOf}
 use Rattle.util.specs.declared.Signed.the-variants.{Area, Refused}
 use Rattle.util.specs.Answers.{signedNumber}

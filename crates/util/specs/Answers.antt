@@ -3,9 +3,9 @@
 use Prim.Native.Nat.{ℕ}
 use mathlib.Core.List.{List, [], _∷_}
 use lib.IntN.{ℤ}
-use Rattle.point.specs.Refusals.{refusalNumber}
+use Rattle.refusals.specs.Refusals.{refusalNumber}
 pub use Rattle.measures.specs.Answers.{midPointNumber, midPointValues, measureNumber, measureValues}
-pub use Rattle.crossing.specs.Answers.{intersectionNumber, intersectionValues}
+pub use Rattle.ratios.specs.Answers.{intersectionNumber, intersectionValues}
 use Rattle.util.specs.declared.Signed.{Signed}
 use Rattle.util.specs.declared.Signed.the-variants.{Area, Refused}
 

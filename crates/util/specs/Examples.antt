@@ -1,7 +1,7 @@
 -- Worked examples: antt computes each, so `refl` proves it.
 use mathlib.Core.Path.{_≡_, refl}
 use lib.IntN.{pos, negsuc}
-use Rattle.point.specs.declared.Refusal.the-variants.{BadPoint}
+use Rattle.refusals.specs.declared.Refusal.the-variants.{BadPoint}
 use Rattle.util.specs.Area.{crossOf, signedAreaOf}
 use Rattle.util.specs.declared.Signed.the-variants.{Area, Refused}
 

@@ -51,7 +51,7 @@ fn of_integers(call: &[u8], numbers: &[u8], out: &mut [u8], at: usize) -> usize 
 // The calls on doubles.
 fn of_doubles(call: &[u8], numbers: &[u8], out: &mut [u8], at: usize) -> usize {
     let mut v = [0.0f64; 8];
-    let Read::Is(n) = lists::read_doubles(numbers, b' ', &mut v) else {
+    let Read::Is(n) = double_lists::read_doubles(numbers, b' ', &mut v) else {
         return at;
     };
     let p1 = PointF64 { x: v[0], y: v[1] };

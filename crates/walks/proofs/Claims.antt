@@ -11,10 +11,10 @@ use lib.IntN.{ℤ}
 use lib.ListN.{length}
 use borrow.Author.Tests.{ltb-false}
 use Rattle.point.specs.Limits.{inRange}
-use Rattle.point.specs.Refusals.{refuse_when_or_}
+use Rattle.refusals.specs.Refusals.{refuse_when_or_}
 use Rattle.point.specs.declared.PointI32.{PointI32}
-use Rattle.point.specs.declared.Refusal.{Refusal}
-use Rattle.point.specs.declared.Refusal.the-variants.{BadSize, BadPoint}
+use Rattle.refusals.specs.declared.Refusal.{Refusal}
+use Rattle.refusals.specs.declared.Refusal.the-variants.{BadSize, BadPoint}
 use Rattle.bitmap.specs.Pixels.{badChart, pixelAt, aroundOf}
 use Rattle.bitmap.specs.declared.Chart.{Chart}
 use Rattle.walks.specs.Walk.{Pixels, Way, Walker, exit, taken, atStart, moved, ends, run, Walk, closed, no-way, stuck, after, walkFrom, Outcome, laid, ended, refusal, outcome, walked}

@@ -16,7 +16,7 @@ use borrow.Author.Needs.{sfits-of}
 use borrow.Author.Tests.{lt-ltb, le-ltb, not-true, not-false}
 use Rattle.point.specs.Limits.{inRange}
 use Rattle.point.specs.declared.PointI32.{PointI32}
-use Rattle.point.specs.declared.Refusal.the-variants.{BadSize, BadPoint, NoRoom}
+use Rattle.refusals.specs.declared.Refusal.the-variants.{BadSize, BadPoint, NoRoom}
 use Rattle.bitmap.specs.Pixels.{badChart, pixelAt, aroundOf}
 use Rattle.bitmap.specs.declared.Chart.{Chart}
 use Rattle.walks.specs.Walk.{Pixels, Way, up, right, down, left, exit, taken, atStart, follow, samePoint, Walk, closed, no-way, stuck, after, walkFrom, laid, ended, walked}

@@ -1,6 +1,6 @@
 -- Document 01, "Numbers handed back": the number and the count of what a walk answers.
 use Prim.Native.Nat.{ℕ}
-use Rattle.point.specs.Refusals.{refusalNumber}
+use Rattle.refusals.specs.Refusals.{refusalNumber}
 use Rattle.walks.specs.declared.Walked.{Walked}
 use Rattle.walks.specs.declared.Walked.the-variants.{Done, NoWay, Stuck, Refused}
 

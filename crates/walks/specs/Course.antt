@@ -10,7 +10,7 @@ use lib.IntN.{ℤ, pos, negsuc, _+ℤ_}
 use lib.Ieee.{unlike}
 use lib.ListN.{length, drop}
 use Rattle.point.specs.Points.{flat}
-use Rattle.point.specs.Refusals.{if_then_else_}
+use Rattle.laws.specs.If.{if_then_else_}
 use Rattle.point.specs.declared.PointI32.{PointI32}
 use Rattle.bitmap.specs.Pixels.{aroundOf}
 use Rattle.bitmap.specs.declared.Chart.{Chart}

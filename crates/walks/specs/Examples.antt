@@ -4,7 +4,7 @@ use mathlib.Core.List.{[], _∷_}
 use mathlib.Core.Path.{_≡_, refl}
 use lib.IntN.{pos}
 use Rattle.point.specs.Points.{flat}
-use Rattle.point.specs.declared.Refusal.the-variants.{NoRoom}
+use Rattle.refusals.specs.declared.Refusal.the-variants.{NoRoom}
 use Rattle.bitmap.specs.Pixels.{badChart, pixelAt}
 use Rattle.walks.specs.Walk.{walked}
 use Rattle.walks.specs.declared.Walked.the-variants.{Done, NoWay, Refused}

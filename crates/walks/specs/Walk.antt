@@ -10,10 +10,10 @@ use lib.Ieee.{unlike}
 use lib.ListN.{length, drop}
 use Rattle.point.specs.Limits.{inRange}
 use Rattle.point.specs.Points.{flat}
-use Rattle.point.specs.Refusals.{refuse_when_or_}
+use Rattle.refusals.specs.Refusals.{refuse_when_or_}
 use Rattle.point.specs.declared.PointI32.{PointI32}
-use Rattle.point.specs.declared.Refusal.{Refusal}
-use Rattle.point.specs.declared.Refusal.the-variants.{BadSize, BadPoint, NoRoom}
+use Rattle.refusals.specs.declared.Refusal.{Refusal}
+use Rattle.refusals.specs.declared.Refusal.the-variants.{BadSize, BadPoint, NoRoom}
 use Rattle.bitmap.specs.Pixels.{pixelAt, badChart}
 use Rattle.bitmap.specs.declared.Chart.{Chart}
 use Rattle.walks.specs.declared.Walked.{Walked}

@@ -13,9 +13,9 @@ use borrow.Author.Tests.{ltb-false}
 use denote.Ref.{now}
 use Rattle.point.specs.Limits.{tooMany, badPoints, badSqTolerance, placesFor}
 use Rattle.point.specs.Points.{points}
-use Rattle.point.specs.Refusals.{refuse_when_or_, countOf}
-use Rattle.point.specs.declared.Answer.the-variants.{Refused}
-use Rattle.point.specs.declared.Refusal.{Refusal}
+use Rattle.refusals.specs.Refusals.{refuse_when_or_, countOf}
+use Rattle.refusals.specs.declared.Answer.the-variants.{Refused}
+use Rattle.refusals.specs.declared.Refusal.{Refusal}
 use Rattle.outline.specs.Points.{count}
 use Rattle.outline.proofs.Flat.{length-points}
 use Rattle.outline.proofs.Room.{places-enough}

@@ -10,11 +10,11 @@ use lib.ListN.{length}
 use Rattle.laws.specs.Lists.{over}
 use Rattle.point.specs.Limits.{tooMany, badPoints, badSqTolerance, placesFor}
 use Rattle.point.specs.Points.{flat, points}
-use Rattle.point.specs.Refusals.{refuse_when_or_}
-use Rattle.point.specs.declared.Answer.{Answer}
-use Rattle.point.specs.declared.Answer.the-variants.{Done, Refused}
-use Rattle.point.specs.declared.Refusal.{Refusal}
-use Rattle.point.specs.declared.Refusal.the-variants.{TooMany, BadPoint, TooFew, BadTolerance, NoRoom}
+use Rattle.refusals.specs.Refusals.{refuse_when_or_}
+use Rattle.refusals.specs.declared.Answer.{Answer}
+use Rattle.refusals.specs.declared.Answer.the-variants.{Done, Refused}
+use Rattle.refusals.specs.declared.Refusal.{Refusal}
+use Rattle.refusals.specs.declared.Refusal.the-variants.{TooMany, BadPoint, TooFew, BadTolerance, NoRoom}
 use Rattle.outline.specs.Points.{count}
 use Rattle.split.specs.Tree.{numbersOf}
 use Rattle.keeping.specs.Calls.{shortFor, handed}

@@ -5,8 +5,8 @@ use mathlib.Core.Path.{_≡_, refl}
 use lib.IntN.{pos}
 use lib.Ieee.{nan, inf, binary64, ofInt, lt, le}
 use Rattle.point.specs.Limits.{badList}
-use Rattle.point.specs.declared.Answer.the-variants.{Done, Refused}
-use Rattle.point.specs.declared.Refusal.the-variants.{BadPoint, NoRoom}
+use Rattle.refusals.specs.declared.Answer.the-variants.{Done, Refused}
+use Rattle.refusals.specs.declared.Refusal.the-variants.{BadPoint, NoRoom}
 use Rattle.zooms.specs.Calls.{numberedOf, zoomOf}
 
 -- P10, by the numbers of P9: at 16 the ends only, at 15 all

@@ -11,7 +11,7 @@ use lib.ListN.{length}
 use borrow.Author.Needs.{needs}
 use borrow.Author.Tests.{lt-ltb, le-ltb, ltb-false}
 use Rattle.point.specs.Limits.{tooMany, badPoints, placesFor}
-use Rattle.point.specs.declared.Refusal.the-variants.{TooMany, BadPoint, NoRoom}
+use Rattle.refusals.specs.declared.Refusal.the-variants.{TooMany, BadPoint, NoRoom}
 use Rattle.outline.proofs.Room.{places-bounds}
 use Rattle.passes.specs.Outcomes.{refusal, verdict}
 use Rattle.passes.specs.declared.Verdict.the-variants.{Fine, Refused}

@@ -7,8 +7,8 @@ use lib.IntN.{ℤ}
 use lib.ListN.{length}
 use borrow.Author.Needs.{needs}
 use Rattle.point.specs.Points.{points}
-use Rattle.point.specs.declared.Answer.the-variants.{Done, Refused}
-use Rattle.point.specs.declared.Refusal.{Refusal}
+use Rattle.refusals.specs.declared.Answer.the-variants.{Done, Refused}
+use Rattle.refusals.specs.declared.Refusal.{Refusal}
 use Rattle.outline.specs.Written.{Handed}
 use Rattle.outline.proofs.Flat.{length-points}
 use Rattle.passes.specs.Outcomes.{refusal, verdict}

@@ -10,8 +10,8 @@ use lib.ListN.{length}
 use borrow.Author.Needs.{needs}
 use borrow.Author.Tests.{ltb-false}
 use Rattle.point.specs.Limits.{tooMany, badPointsF64}
-use Rattle.point.specs.Refusals.{if_then_else_}
-use Rattle.point.specs.declared.Refusal.the-variants.{TooMany, BadPoint, TooFew}
+use Rattle.laws.specs.If.{if_then_else_}
+use Rattle.refusals.specs.declared.Refusal.the-variants.{TooMany, BadPoint, TooFew}
 use Rattle.scheme.specs.declared.Settings.{Settings}
 use Rattle.round_refusals.specs.declared.Verdict.{Verdict}
 use Rattle.round_refusals.specs.declared.Verdict.the-variants.{Refused}

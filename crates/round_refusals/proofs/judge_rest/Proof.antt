@@ -7,7 +7,7 @@ use lib.Dec.{ltb, eqb}
 use lib.ListN.{length}
 use borrow.Author.Needs.{needs}
 use Rattle.point.specs.Limits.{every}
-use Rattle.point.specs.declared.Refusal.the-variants.{BadFlags, BadSettings, NoRoom}
+use Rattle.refusals.specs.declared.Refusal.the-variants.{BadFlags, BadSettings, NoRoom}
 use Rattle.scheme.specs.declared.Settings.{Settings}
 use Rattle.round_refusals.specs.declared.Verdict.the-variants.{Fine, Refused}
 use Rattle.round_refusals.specs.Judged.{badSettings, placesFor, isFlag, restRefusal, verdict}

@@ -11,10 +11,10 @@ use lib.IntN.{ℤ}
 use lib.ListN.{length, take}
 use borrow.Author.Needs.{needs}
 use Rattle.point.specs.Points.{flat, points}
-use Rattle.point.specs.Refusals.{countOf}
-use Rattle.point.specs.declared.Answer.{Answer}
-use Rattle.point.specs.declared.Answer.the-variants.{Refused}
-use Rattle.point.specs.declared.Refusal.{Refusal}
+use Rattle.refusals.specs.Refusals.{countOf}
+use Rattle.refusals.specs.declared.Answer.{Answer}
+use Rattle.refusals.specs.declared.Answer.the-variants.{Refused}
+use Rattle.refusals.specs.declared.Refusal.{Refusal}
 use Rattle.outline.proofs.Flat.{points-flat}
 use Rattle.passes.specs.Outcomes.{refusal, verdict, outcome}
 use Rattle.passes.specs.declared.Verdict.{Verdict}

@@ -4,8 +4,8 @@ use mathlib.Core.List.{List}
 use mathlib.Core.Path.{_≡_, ap₂, _∙_}
 use borrow.Author.Needs.{needs}
 use Rattle.texts.specs.Put.{Outcome}
-use Rattle.point.specs.Refusals.{numberOf, countOf}
-use Rattle.point.specs.declared.Answer.{Answer}
+use Rattle.refusals.specs.Refusals.{numberOf, countOf}
+use Rattle.refusals.specs.declared.Answer.{Answer}
 use Rattle.case_texts.specs.Spaced.{counted}
 use Rattle.case_texts.proofs.values.put_answer.Statement.{statement}
 use Rattle.case_texts.proofs.values.put_answer.Tie as tie

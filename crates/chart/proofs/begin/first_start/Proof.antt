@@ -8,7 +8,7 @@ use native.Mathlib.Omega.{arith}
 use lib.IntN.{pos}
 use borrow.Author.Needs.{needs}
 use borrow.Author.Tests.{lt-ltb, le-ltb}
-use Rattle.point.specs.declared.Refusal.the-variants.{BadSize, NoWay}
+use Rattle.refusals.specs.declared.Refusal.the-variants.{BadSize, NoWay}
 use Rattle.bitmap.specs.declared.Chart.{Chart}
 use Rattle.bitmap.specs.declared.Start.{Start}
 use Rattle.bitmap.specs.declared.Start.the-variants.{At, Refused}

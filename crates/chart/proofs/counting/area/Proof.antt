@@ -9,7 +9,7 @@ use native.Mathlib.Omega.{arith}
 use mir.Syntax.{w64}
 use mir.Val.{Fits}
 use borrow.Author.Needs.{needs}
-use Rattle.point.specs.declared.Refusal.the-variants.{BadSize}
+use Rattle.refusals.specs.declared.Refusal.the-variants.{BadSize}
 use Rattle.bitmap.specs.declared.Chart.{Chart}
 use Rattle.bitmap.specs.declared.Cells.the-variants.{Set, Refused}
 use Rattle.bitmap.specs.Pixels.{Good, badChart}

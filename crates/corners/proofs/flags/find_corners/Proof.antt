@@ -12,9 +12,9 @@ use Rattle.laws.specs.Integers.{range-true}
 use Rattle.laws.specs.Joined.{both-true}
 use Rattle.laws.specs.Lists.{over}
 use Rattle.point.specs.Limits.{tooMany, badPoints}
-use Rattle.point.specs.Refusals.{if_then_else_}
-use Rattle.point.specs.declared.Answer.the-variants.{Done, Refused}
-use Rattle.point.specs.declared.Refusal.the-variants.{TooMany, BadPoint, TooFew, BadSettings, NoRoom}
+use Rattle.laws.specs.If.{if_then_else_}
+use Rattle.refusals.specs.declared.Answer.the-variants.{Done, Refused}
+use Rattle.refusals.specs.declared.Refusal.the-variants.{TooMany, BadPoint, TooFew, BadSettings, NoRoom}
 use Rattle.outline.proofs.Room.{not-bad}
 use Rattle.corners.specs.declared.Pair.{Pair}
 use Rattle.corners.specs.Corners.{cornersOf}

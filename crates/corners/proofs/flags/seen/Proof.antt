@@ -3,7 +3,7 @@ use Prim.Native.Nat.{ℕ, _-_}
 use mathlib.Core.Bool.{Bool, true, false}
 use mathlib.Core.Path.{_≡_}
 use borrow.Author.Needs.{needs}
-use Rattle.point.specs.Refusals.{if_then_else_}
+use Rattle.laws.specs.If.{if_then_else_}
 use Rattle.corners.proofs.flags.seen.Statement.{statement}
 use Rattle.corners.proofs.flags.seen.Tie as tie
 

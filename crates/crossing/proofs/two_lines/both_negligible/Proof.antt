@@ -1,6 +1,6 @@
 -- `crossing::both_negligible` meets its contract: its two tests, joined. Assumes nothing.
 use borrow.Author.Needs.{needs}
-use Rattle.measures.proofs.Joined.{joined}
+use Rattle.laws.specs.Joined.{joined}
 use Rattle.crossing.proofs.two_lines.both_negligible.Statement.{statement}
 use Rattle.crossing.proofs.two_lines.both_negligible.Tie as tie
 

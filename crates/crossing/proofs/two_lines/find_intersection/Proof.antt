@@ -4,10 +4,10 @@ use mathlib.Core.Path.{_≡_}
 use borrow.Author.Needs.{needs}
 use borrow.Author.Tests.{not-true, not-false}
 use Rattle.point.specs.declared.PointF64.{PointF64}
-use Rattle.point.specs.declared.Refusal.the-variants.{BadPoint}
+use Rattle.refusals.specs.declared.Refusal.the-variants.{BadPoint}
 use Rattle.measures.specs.Calls.{fine}
-use Rattle.crossing.specs.declared.Intersection.{Intersection}
-use Rattle.crossing.specs.declared.Intersection.the-variants.{Refused}
+use Rattle.ratios.specs.declared.Intersection.{Intersection}
+use Rattle.ratios.specs.declared.Intersection.the-variants.{Refused}
 use Rattle.crossing.specs.Lines.{crossing}
 use Rattle.crossing.specs.Calls.{intersectionOf}
 use Rattle.crossing.proofs.two_lines.find_intersection.Statement.{statement}

@@ -3,11 +3,11 @@ use mathlib.Core.Bool.{Bool, true, false, _&&_}
 use mathlib.Core.Path.{_≡_}
 use lib.Ieee.{Float, binary64, div}
 use borrow.Author.Needs.{needs}
-use Rattle.point.specs.Refusals.{if_then_else_}
+use Rattle.laws.specs.If.{if_then_else_}
 use Rattle.point.specs.declared.PointF64.{PointF64}
 use Rattle.measures.specs.Lengths.{middle}
-use Rattle.crossing.specs.declared.Intersection.{Intersection}
-use Rattle.crossing.specs.declared.Intersection.the-variants.{Parallel, Coincide, Cross}
+use Rattle.ratios.specs.declared.Intersection.{Intersection}
+use Rattle.ratios.specs.declared.Intersection.the-variants.{Parallel, Coincide, Cross}
 use Rattle.crossing.specs.Along.{along}
 use Rattle.crossing.specs.Lines.{negligible}
 use Rattle.crossing.proofs.two_lines.judged.Statement.{statement}

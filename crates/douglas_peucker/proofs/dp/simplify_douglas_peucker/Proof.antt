@@ -13,9 +13,9 @@ use borrow.Author.Tests.{eq-eqb, ne-eqb, lt-ltb, le-ltb}
 use Rattle.laws.specs.Lists.{over, length-over}
 use Rattle.point.specs.Limits.{tooMany, badPoints, badSqTolerance, placesFor}
 use Rattle.point.specs.Points.{points}
-use Rattle.point.specs.declared.Answer.{Answer}
-use Rattle.point.specs.declared.Answer.the-variants.{Refused}
-use Rattle.point.specs.declared.Refusal.the-variants.{TooMany, BadPoint, TooFew, BadTolerance, NoRoom}
+use Rattle.refusals.specs.declared.Answer.{Answer}
+use Rattle.refusals.specs.declared.Answer.the-variants.{Refused}
+use Rattle.refusals.specs.declared.Refusal.the-variants.{TooMany, BadPoint, TooFew, BadTolerance, NoRoom}
 use Rattle.outline.specs.Points.{count}
 use Rattle.outline.proofs.Flat.{length-points}
 use Rattle.outline.proofs.Room.{too-short, long-enough}

@@ -10,9 +10,9 @@ use borrow.Author.Needs.{needs}
 use borrow.Author.Tests.{eq-eqb, ne-eqb}
 use Rattle.point.specs.Limits.{placesFor}
 use Rattle.point.specs.Points.{points}
-use Rattle.point.specs.declared.Answer.the-variants.{Done, Refused}
+use Rattle.refusals.specs.declared.Answer.the-variants.{Done, Refused}
 use Rattle.point.specs.declared.PointI32.{PointI32}
-use Rattle.point.specs.declared.Refusal.the-variants.{BadPoint, TooFew, NoRoom}
+use Rattle.refusals.specs.declared.Refusal.the-variants.{BadPoint, TooFew, NoRoom}
 use Rattle.outline.specs.Points.{count, pointAt}
 use Rattle.outline.specs.Written.{Handed, Left}
 use Rattle.outline.proofs.Flat.{length-points, points-at}

@@ -14,8 +14,8 @@ use lib.Signed.{mag}
 use borrow.Author.Needs.{needs, sfits-of}
 use borrow.Author.Tests.{lt-ltb, le-ltb}
 use Rattle.laws.specs.Lists.{over, over-push, over-nil}
-use Rattle.point.specs.declared.Answer.the-variants.{Done, Refused}
-use Rattle.point.specs.declared.Refusal.the-variants.{NoRoom}
+use Rattle.refusals.specs.declared.Answer.the-variants.{Done, Refused}
+use Rattle.refusals.specs.declared.Refusal.the-variants.{NoRoom}
 use Rattle.keeping.specs.Calls.{keptAllOf}
 use Rattle.keeping.proofs.all.keep_all.Statement.{statement}
 use Rattle.keeping.proofs.all.keep_all.Tie as tie

@@ -4,7 +4,7 @@ use mathlib.Core.Path.{_≡_}
 use borrow.Author.Needs.{needs}
 use borrow.Author.Tests.{not-true, not-false}
 use Rattle.point.specs.declared.PointF64.{PointF64}
-use Rattle.point.specs.declared.Refusal.the-variants.{BadPoint}
+use Rattle.refusals.specs.declared.Refusal.the-variants.{BadPoint}
 use Rattle.measures.specs.declared.MidPoint.the-variants.{At, Refused}
 use Rattle.measures.specs.Lengths.{middle}
 use Rattle.measures.specs.Calls.{fine, middleOf}

@@ -4,7 +4,7 @@ use mathlib.Core.Path.{_≡_}
 use lib.Ieee.{Float}
 use borrow.Author.Needs.{needs}
 use Rattle.point.specs.declared.PointF64.{PointF64}
-use Rattle.point.specs.declared.Refusal.the-variants.{BadPoint}
+use Rattle.refusals.specs.declared.Refusal.the-variants.{BadPoint}
 use Rattle.measures.specs.declared.Measure.the-variants.{Is, Refused}
 use Rattle.measures.specs.Lengths.{lengthOf}
 use Rattle.measures.specs.Calls.{fine, normOf}

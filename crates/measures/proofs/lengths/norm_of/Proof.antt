@@ -10,7 +10,7 @@ use lib.Ieee.{Float}
 use borrow.Author.Needs.{needs}
 use borrow.Author.Tests.{not-true, not-false}
 use Rattle.point.specs.Limits.{inRange}
-use Rattle.point.specs.declared.Refusal.the-variants.{BadPoint}
+use Rattle.refusals.specs.declared.Refusal.the-variants.{BadPoint}
 use Rattle.point.proofs.Claims.{in-range-abs}
 use Rattle.measures.specs.declared.Measure.the-variants.{Is, Refused}
 use Rattle.measures.specs.Lengths.{lengthOfI32}

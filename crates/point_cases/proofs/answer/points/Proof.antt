@@ -16,13 +16,9 @@ points-spec =
     (λ c. search laws)  -- enum-told
     (λ c. search laws)  -- returns
     (λ c κs. search laws)  -- too-many-requires
-    (λ c κs. search laws)  -- judged-requires
-    (λ c. search laws)  -- same-length
-    (λ c. search laws)  -- returns-2
     (λ c. search laws)  -- sub-bad-points
     (λ c. search laws)  -- part-bad-points-start
     (λ c. search laws)  -- part-bad-points-end
     (λ c κs. search laws)  -- bad-points-requires
-    (λ c κs. search laws)  -- judged-requires-2
-    (λ c. search laws)  -- same-length-2
-    (λ c. search laws))  -- returns-3
+    (λ c κs. search laws)  -- judged-requires
+    (λ c. search laws))  -- returns-2

@@ -16,13 +16,9 @@ points-f64-spec =
     (λ c. search laws)  -- enum-told
     (λ c. search laws)  -- returns
     (λ c κs. search laws)  -- too-many-requires
-    (λ c κs. search laws)  -- judged-requires
-    (λ c. search laws)  -- same-length
-    (λ c. search laws)  -- returns-2
     (λ c. search laws)  -- sub-bad-points-f64
     (λ c. search laws)  -- part-bad-points-f64-start
     (λ c. search laws)  -- part-bad-points-f64-end
     (λ c κs. search laws)  -- bad-points-f64-requires
-    (λ c κs. search laws)  -- judged-requires-2
-    (λ c. search laws)  -- same-length-2
-    (λ c. search laws))  -- returns-3
+    (λ c κs. search laws)  -- judged-requires
+    (λ c. search laws))  -- returns-2

@@ -12,7 +12,7 @@ use borrow.Author.Needs.{needs}
 use Rattle.laws.specs.Lists.{over}
 use Rattle.point.specs.Limits.{badPoints, inRange}
 use Rattle.point.specs.Points.{flat, points}
-use Rattle.point.specs.declared.Answer.{Answer}
+use Rattle.refusals.specs.declared.Answer.{Answer}
 use Rattle.point.specs.declared.PointI32.{PointI32}
 use Rattle.point.proofs.Claims.{whole-points, coordinates-fit}
 use Rattle.outline.specs.Points.{count, pointAt}

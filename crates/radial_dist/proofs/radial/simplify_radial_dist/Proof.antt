@@ -9,8 +9,8 @@ use lib.ListN.{length}
 use borrow.Author.Needs.{needs}
 use Rattle.point.specs.Limits.{tooMany, badPoints, badSqTolerance, placesFor}
 use Rattle.point.specs.Points.{points}
-use Rattle.point.specs.declared.Answer.the-variants.{Done, Refused}
-use Rattle.point.specs.declared.Refusal.the-variants.{TooMany, BadPoint, BadTolerance, NoRoom}
+use Rattle.refusals.specs.declared.Answer.the-variants.{Done, Refused}
+use Rattle.refusals.specs.declared.Refusal.the-variants.{TooMany, BadPoint, BadTolerance, NoRoom}
 use Rattle.outline.specs.Points.{count}
 use Rattle.outline.specs.Written.{Handed}
 use Rattle.outline.proofs.Room.{too-short, long-enough, not-bad, list-fits}

@@ -16,11 +16,11 @@ use borrow.Author.Tests.{le-ltb}
 use Rattle.laws.specs.Lists.{over, length-over, take-over-all}
 use Rattle.point.specs.Limits.{tooMany, badPoints, badSqTolerance, placesFor}
 use Rattle.point.specs.Points.{flat, points}
-use Rattle.point.specs.Refusals.{countOf, refuse_when_or_}
-use Rattle.point.specs.declared.Answer.{Answer}
-use Rattle.point.specs.declared.Answer.the-variants.{Done, Refused}
+use Rattle.refusals.specs.Refusals.{countOf, refuse_when_or_}
+use Rattle.refusals.specs.declared.Answer.{Answer}
+use Rattle.refusals.specs.declared.Answer.the-variants.{Done, Refused}
 use Rattle.point.specs.declared.PointI32.{PointI32}
-use Rattle.point.specs.declared.Refusal.the-variants.{BadPoint}
+use Rattle.refusals.specs.declared.Refusal.the-variants.{BadPoint}
 use Rattle.outline.specs.Points.{count}
 use Rattle.outline.proofs.Flat.{length-flat, length-points, count-flat}
 use Rattle.outline.proofs.Room.{places-many, places-shorter}

@@ -8,8 +8,8 @@ use lib.IntN.{ℤ}
 use lib.ListN.{length}
 use borrow.Author.Needs.{needs}
 use Rattle.point.specs.Limits.{tooMany}
-use Rattle.point.specs.declared.Answer.the-variants.{Refused}
-use Rattle.point.specs.declared.Refusal.the-variants.{TooMany}
+use Rattle.refusals.specs.declared.Answer.the-variants.{Refused}
+use Rattle.refusals.specs.declared.Refusal.the-variants.{TooMany}
 use Rattle.outline.specs.Points.{count}
 use Rattle.reduce.specs.Calls.{reduceOf}
 use Rattle.reduce.specs.Ready.{goesOn}

@@ -8,9 +8,9 @@ use lib.IntN.{ℤ}
 use lib.ListN.{length}
 use borrow.Author.Needs.{needs}
 use Rattle.point.specs.Limits.{tooMany, badPoints, badTolerance}
-use Rattle.point.specs.declared.Answer.{Answer}
-use Rattle.point.specs.declared.Answer.the-variants.{Refused}
-use Rattle.point.specs.declared.Refusal.the-variants.{BadPoint, BadTolerance, NoRoom}
+use Rattle.refusals.specs.declared.Answer.{Answer}
+use Rattle.refusals.specs.declared.Answer.the-variants.{Refused}
+use Rattle.refusals.specs.declared.Refusal.the-variants.{BadPoint, BadTolerance, NoRoom}
 use Rattle.outline.specs.Points.{count}
 use Rattle.keeping.specs.Calls.{Points, keptAllOf}
 use Rattle.keeping.proofs.Claims.{all-handed}

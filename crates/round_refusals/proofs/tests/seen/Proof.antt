@@ -7,7 +7,7 @@ use lib.Dec.{ltb}
 use borrow.Author.Needs.{needs}
 use borrow.Author.Tests.{ltb-false}
 use Rattle.laws.specs.Joined.{and-second}
-use Rattle.point.specs.Refusals.{if_then_else_}
+use Rattle.laws.specs.If.{if_then_else_}
 use Rattle.round_refusals.proofs.tests.seen.Statement.{statement}
 use Rattle.round_refusals.proofs.tests.seen.Tie as tie
 

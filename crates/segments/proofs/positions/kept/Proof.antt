@@ -5,7 +5,7 @@ use mathlib.Core.Path.{_≡_}
 use lib.ListN.{length, getD}
 use borrow.Author.Needs.{needs}
 use borrow.Author.Tests.{eq-eqb, ne-eqb}
-use Rattle.point.specs.Refusals.{if_then_else_}
+use Rattle.laws.specs.If.{if_then_else_}
 use Rattle.segments.specs.Segments.{isCorner}
 use Rattle.segments.proofs.positions.kept.Statement.{statement}
 use Rattle.segments.proofs.positions.kept.Tie as tie

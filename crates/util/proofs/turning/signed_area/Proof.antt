@@ -11,7 +11,7 @@ use borrow.Author.Tests.{not-true, not-false}
 use Rattle.laws.specs.Joined.{both-true}
 use Rattle.point.specs.Limits.{inRange}
 use Rattle.point.specs.declared.PointI32.{PointI32}
-use Rattle.point.specs.declared.Refusal.the-variants.{BadPoint}
+use Rattle.refusals.specs.declared.Refusal.the-variants.{BadPoint}
 use Rattle.point.proofs.Claims.{in-range-abs}
 use Rattle.util.specs.Area.{pointFine, signedArea, signedAreaOf}
 use Rattle.util.specs.declared.Signed.the-variants.{Area, Refused}

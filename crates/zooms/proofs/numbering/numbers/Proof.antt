@@ -10,8 +10,8 @@ use lib.ListN.{length}
 use borrow.Author.Needs.{needs}
 use borrow.Author.Tests.{eq-eqb, ne-eqb, lt-ltb, le-ltb}
 use Rattle.point.specs.Limits.{tooMany, badPoints, placesFor}
-use Rattle.point.specs.declared.Answer.the-variants.{Done, Refused}
-use Rattle.point.specs.declared.Refusal.the-variants.{TooMany, BadPoint, TooFew, NoRoom}
+use Rattle.refusals.specs.declared.Answer.the-variants.{Done, Refused}
+use Rattle.refusals.specs.declared.Refusal.the-variants.{TooMany, BadPoint, TooFew, NoRoom}
 use Rattle.outline.specs.Points.{count}
 use Rattle.outline.proofs.Room.{places-enough}
 use Rattle.split.specs.Marks.{numberedOf as laidNumbers}

@@ -9,10 +9,10 @@ use lib.ListN.{length}
 use borrow.Author.Needs.{needs}
 use borrow.Author.Tests.{eq-eqb, ne-eqb}
 use Rattle.point.specs.Limits.{tooMany, badPoints, badSqTolerance}
-use Rattle.point.specs.Refusals.{refuse_when_or_}
-use Rattle.point.specs.declared.Answer.{Answer}
-use Rattle.point.specs.declared.Answer.the-variants.{Refused}
-use Rattle.point.specs.declared.Refusal.the-variants.{TooMany, BadPoint, TooFew, BadTolerance, NoRoom}
+use Rattle.refusals.specs.Refusals.{refuse_when_or_}
+use Rattle.refusals.specs.declared.Answer.{Answer}
+use Rattle.refusals.specs.declared.Answer.the-variants.{Refused}
+use Rattle.refusals.specs.declared.Refusal.the-variants.{TooMany, BadPoint, TooFew, BadTolerance, NoRoom}
 use Rattle.outline.specs.Points.{count}
 use Rattle.keeping.specs.Calls.{shortFor, aboveOutcome, keptAboveOf}
 use Rattle.zooms.specs.Calls.{Points, zoomOutcome, zoomOf}

@@ -1,0 +1,21 @@
+-- What follows of the contract, for its readers and its callers. Assumes nothing.
+use Prim.Native.Nat.{ℕ}
+use mathlib.Core.List.{List}
+use mathlib.Core.Path.{_≡_, sym, ap, ap₂, _∙_}
+use lib.Ieee.{Float}
+use denote.Ref.{now}
+use Rattle.pairs.specs.Into.{Outcome, readInto}
+use Rattle.pairs.specs.declared.Read.{Read}
+use Rattle.lists.specs.Lists.{listOf}
+use Rattle.double_lists.specs.Doubles.{double}
+use Rattle.double_lists.proofs.doubles.read_doubles.Reads as read_doubles
+
+-- The contract leaves no choice: of words and buffers of the same contents it allows one answer, and one last content of the
+-- buffer. `Post` is the contract itself, as Rattle reads it off the source, at arguments `a`, a result `r` and parameters at exit
+-- `s`.
+pub read-doubles-determined : (κs : _) (a a′ : _) (r r′ : Read) (s s′ : _) → read_doubles.Post κs a r s → read_doubles.Post κs a′ r′ s′ →
+    now (a .0) ≡ now (a′ .0) → a .1 .0 ≡ a′ .1 .0 → now (a .1 .1 .0) ≡ now (a′ .1 .1 .0) →
+    _≡_ {A = Outcome Float} (record { answer = r; to = now (s .1 .1 .0) }) (record { answer = r′; to = now (s′ .1 .1 .0) })
+read-doubles-determined κs a a′ r r′ s s′ p q word sep to =
+    p ∙ ap₂ (λ (b : ℕ) (w : List ℕ). readInto (listOf double b w) (now (a .1 .1 .0))) sep word ∙
+    ap (readInto (listOf double (a′ .1 .0) (now (a′ .0)))) to ∙ sym q

@@ -1,0 +1,72 @@
+// What a crossing says of its two lines.
+ghost use mathlib.Core.Bool.{_||_};
+ghost use mathlib.Core.Path.{_≡_};
+ghost use Rattle.ratios.specs.Answers.{intersectionNumber};
+ghost use Rattle.ratios.specs.Ratios.{off, outsideOf, insideOf, coincideOf};
+use crate::Intersection;
+
+// How far off its line a ratio may lie.
+const E: f64 = 0.001;
+
+impl Intersection {
+    // Document 01's number.
+    pub fn number(self) -> u8
+        ensures { λ r. ⌜ r ≡ intersectionNumber self ⌝ }
+    {
+        match self {
+            Intersection::Parallel => 0,
+            Intersection::Coincide(_) => 0,
+            Intersection::Cross(_, _, _) => 0,
+            Intersection::Refused(refusal) => refusal.number(),
+        }
+    }
+
+    // Whether it lies outside of either line's two points.
+    pub fn outside(self) -> bool
+        ensures { λ r. ⌜ r ≡ outsideOf self ⌝ }
+    {
+        match self {
+            Intersection::Parallel => false, // they meet nowhere
+            Intersection::Coincide(_) => false,
+            Intersection::Cross(_, mua, mub) => either_off(mua, mub),
+            Intersection::Refused(_) => false,
+        }
+    }
+
+    // Whether it lies between the two points of both lines.
+    pub fn inside(self) -> bool
+        ensures { λ r. ⌜ r ≡ insideOf self ⌝ }
+    {
+        match self {
+            Intersection::Parallel => false,
+            Intersection::Coincide(_) => true,
+            Intersection::Cross(_, mua, mub) => !either_off(mua, mub),
+            Intersection::Refused(_) => false,
+        }
+    }
+
+    // Whether the lines are one.
+    pub fn coincide(self) -> bool
+        ensures { λ r. ⌜ r ≡ coincideOf self ⌝ }
+    {
+        match self {
+            Intersection::Parallel => false,
+            Intersection::Coincide(_) => true,
+            Intersection::Cross(_, mua, mub) => mua != mua && mub != mub,
+            Intersection::Refused(_) => false,
+        }
+    }
+}
+
+fn either_off(mua: f64, mub: f64) -> bool
+    ensures { λ r. ⌜ r ≡ (off mua || off mub) ⌝ }
+{
+    off(mua) || off(mub)
+}
+
+// Whether a ratio lies off its line.
+fn off(mu: f64) -> bool
+    ensures { λ r. ⌜ r ≡ off mu ⌝ }
+{
+    mu < 0.0 - E || 1.0 + E < mu
+}

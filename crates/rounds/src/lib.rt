@@ -1,0 +1,45 @@
+// What a round of subdivision is, and what it answers, with its number and values.
+//
+// No call takes more stack than its return addresses, 16 bytes (measured on the x86-64 code).
+ghost use mathlib.Core.Path.{_≡_};
+ghost use Rattle.rounds.specs.Answers.{subdividedNumber, subdividedCount, subdividedFinished};
+use point::Refusal;
+
+// What a round answers: how many points there are and whether another round would do nothing, or why
+// there is none.
+pub enum Subdivided {
+    Done(usize, bool),
+    Refused(Refusal),
+}
+
+impl Subdivided {
+    // Document 01's number.
+    pub fn number(self) -> u8
+        ensures { λ r. ⌜ r ≡ subdividedNumber self ⌝ }
+    {
+        match self {
+            Subdivided::Done(_, _) => 0,
+            Subdivided::Refused(refusal) => refusal.number(),
+        }
+    }
+
+    // How many points there are: none when it refused.
+    pub fn count(self) -> usize
+        ensures { λ r. ⌜ r ≡ subdividedCount self ⌝ }
+    {
+        match self {
+            Subdivided::Done(points, _) => points,
+            Subdivided::Refused(_) => 0,
+        }
+    }
+
+    // Whether another round would do nothing: not so when it refused.
+    pub fn finished(self) -> bool
+        ensures { λ r. ⌜ r ≡ subdividedFinished self ⌝ }
+    {
+        match self {
+            Subdivided::Done(_, finished) => finished,
+            Subdivided::Refused(_) => false,
+        }
+    }
+}

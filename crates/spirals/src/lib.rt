@@ -1,0 +1,49 @@
+// What a spiral is, a walk of a square from its centre outwards; what its calls answer, and laws on its state.
+//
+// The definitions are in specs/, the laws in proofs/. The calls are those of `spiral`: the code here is the
+// numbers of their answers. No call takes more stack than its return address, 8 bytes (measured on the
+// x86-64 code).
+mod answers;
+
+use point::PointI32;
+use point::Refusal;
+
+// Where such a walk stands, and how it goes on: clockwise, y down.
+#[repr(C)]
+pub struct SpiralWalker {
+    pub x: i32,
+    pub y: i32,
+    pub dir: i32,
+    pub gx: i32,
+    pub gy: i32,
+    pub sq: i32,
+    pub cc: i32,
+    pub area: usize,
+    pub step: usize,
+}
+
+// A spiral that has not begun.
+pub enum Fresh {
+    Ready(SpiralWalker),
+    Refused(Refusal),
+}
+
+// What a step of a spiral answers: the point that it stood on, with the next state, or none.
+pub enum Turn {
+    At(PointI32, SpiralWalker),
+    End,
+    Refused(Refusal),
+}
+
+// What a step in the caller's own struct answers: the point that the spiral stood on, or none.
+pub enum Advanced {
+    At(PointI32),
+    End,
+    Refused(Refusal),
+}
+
+// That answer, with the state that the struct holds afterwards.
+pub struct AdvancedOutcome {
+    pub answer: Advanced,
+    pub spiral: SpiralWalker,
+}
