@@ -6,6 +6,7 @@ use chart::Start;
 use decimals::Integer;
 use decimals::Natural;
 use pairs::Read;
+use point::PointI32;
 
 // The most bytes that are read.
 const MOST: usize = 65536;
@@ -33,14 +34,14 @@ pub fn answer(line: &[u8], out: &mut [u8], at: usize) -> usize {
 fn call(line: &[u8], chart: Chart, pixels: &[u8], out: &mut [u8], at: usize) -> usize {
     let words = lines::words(line);
     let name = lines::word(line, 0);
-    if words == 4 && check::same(name, b"area") {
+    if (words == 4) & check::same(name, b"area") {
         let cells = chart::area(chart, pixels);
         return case_texts::put_count(cells.number(), cells.count(), out, at);
     }
-    if words == 4 && check::same(name, b"first_start") {
+    if (words == 4) & check::same(name, b"first_start") {
         return start(chart::first_start(chart, pixels), out, at);
     }
-    if words == 6 && check::same(name, b"pixel") {
+    if (words == 6) & check::same(name, b"pixel") {
         let Integer::Is(x) = decimals::read_integer(lines::word(line, 4)) else {
             return at;
         };
@@ -53,12 +54,11 @@ fn call(line: &[u8], chart: Chart, pixels: &[u8], out: &mut [u8], at: usize) -> 
 }
 
 fn start(start: Start, out: &mut [u8], at: usize) -> usize {
-    let end = case_texts::put_natural(start.number() as u64, out, at);
-    match start {
-        Start::At(p) => {
-            let next = case_texts::put_integer(p.x, out, end);
-            case_texts::put_integer(p.y, out, next)
-        }
-        Start::Refused(_) => case_texts::put_count(0, 0, out, end),
-    }
+    let p = match start {
+        Start::At(p) => p,
+        Start::Refused(_) => PointI32 { x: 0, y: 0 },
+    };
+    let mut end = case_texts::put_natural(start.number() as u64, out, at);
+    end = case_texts::put_integer(p.x, out, end);
+    case_texts::put_integer(p.y, out, end)
 }

@@ -23,14 +23,11 @@ enum Call {
 pub fn answer(line: &[u8], out: &mut [u8], at: usize) -> usize {
     let words = lines::words(line);
     let call = lines::word(line, 0);
-    if words == 3 && check::same(call, b"limit_penalties") {
+    if (words == 3) & check::same(call, b"limit_penalties") {
         return given(Call::Penalties, line, 1, out, at);
     }
     let clockwise = case_words::read_choice(lines::word(line, 1));
-    if words != 4 {
-        return at;
-    }
-    if 1 < clockwise {
+    if (words != 4) | (1 < clockwise) {
         return at;
     }
     if check::same(call, b"remove_staircase") {

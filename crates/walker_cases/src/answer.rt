@@ -20,13 +20,13 @@ const MOST: usize = 65536;
 pub fn answer(line: &[u8], out: &mut [u8], at: usize) -> usize {
     let words = lines::words(line);
     let call = lines::word(line, 0);
-    if words == 8 && check::same(call, b"walk") {
+    if (words == 8) & check::same(call, b"walk") {
         return walk(line, out, at);
     }
-    if words == 2 && check::same(call, b"spiral") {
+    if (words == 2) & check::same(call, b"spiral") {
         return fresh(line, out, at);
     }
-    if words == 10 && check::same(call, b"spiral_step") {
+    if (words == 10) & check::same(call, b"spiral_step") {
         return step(line, out, at);
     }
     at

@@ -28,7 +28,13 @@ pub fn step(line: &[u8], out: &mut [u8], at: usize) -> usize {
     let Natural::Is(step) = decimals::read_natural(lines::word(line, 9)) else {
         return at;
     };
-    let s = SpiralWalker {
+    let s = state_of(&fields, area as usize, step as usize);
+    put_turn(spiral::spiral_step(s), s, out, at)
+}
+
+// The state of the first seven fields and the last two.
+fn state_of(fields: &[i32; 7], area: usize, step: usize) -> SpiralWalker {
+    SpiralWalker {
         x: fields[0],
         y: fields[1],
         dir: fields[2],
@@ -36,10 +42,9 @@ pub fn step(line: &[u8], out: &mut [u8], at: usize) -> usize {
         gy: fields[4],
         sq: fields[5],
         cc: fields[6],
-        area: area as usize,
-        step: step as usize,
-    };
-    put_turn(spiral::spiral_step(s), s, out, at)
+        area: area,
+        step: step,
+    }
 }
 
 // Reads the words behind the first to `fields`, and answers whether each is a number.

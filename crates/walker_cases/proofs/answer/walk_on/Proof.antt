@@ -18,5 +18,5 @@ walk-on-spec =
     (λ c κs. search needs)  -- count-requires
     (λ c κs. search needs)  -- put-answer-requires
     (λ c κs. search needs)  -- put-integers-requires
-    (λ c. cc)  -- same-length
+    (λ c. search needs)  -- same-length
     (λ c. search needs))  -- returns-2
