@@ -6,7 +6,6 @@ ghost use Rattle.digits.specs.Numeral.{patternOf};
 ghost use Rattle.pairs.specs.Into.{countOf, over, Room, readInto};
 ghost use Rattle.lists.specs.Lists.{itemsOf, listOf};
 ghost use Rattle.double_lists.specs.Doubles.{double};
-use crate::items::item_end;
 use digits::Hex;
 use digits::read_pattern;
 use pairs::Read;
@@ -36,7 +35,7 @@ fn count_doubles(word: &[u8], sep: u8) -> Read
     let mut n = 0;
     let mut at = 0;
     while at <= word.len() {
-        let end = item_end(word, sep, at);
+        let end = line_words::find(word, sep, at);
         let Hex::Is(_bits) = pattern_in(word, at, end) else {
             return Read::Not;
         };
@@ -53,7 +52,7 @@ fn write_doubles(word: &[u8], sep: u8, to: &mut [f64])
     let mut n = 0usize;
     let mut at = 0;
     while at <= word.len() {
-        let end = item_end(word, sep, at);
+        let end = line_words::find(word, sep, at);
         let Hex::Is(bits) = pattern_in(word, at, end) else {
             return;
         };

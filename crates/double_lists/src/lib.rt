@@ -3,7 +3,6 @@
 // Nothing fails: where a value is none, or there is no room for all, the answer is `Not`, and nothing
 // is written. The call takes 48 bytes of stack with its return address (measured on the x86-64 code at -O3).
 mod doubles;
-mod items;
 
 pub use doubles::read_doubles;
 pub use pairs::Read;

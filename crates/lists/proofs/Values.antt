@@ -1,17 +1,19 @@
 -- Values that are read one after the other: how the items of a list follow each other, how they are counted, and how they are
 -- stored. Everything here holds of values of any type, and of any way to read one. Assumes nothing.
-use Prim.Native.Nat.{ℕ, _+_, _-_, _≤_, _<_, zero-le}
+use Prim.Native.Nat.{ℕ, _+_, _-_, _*_, _^_, _≤_, _<_, zero-le}
 use mathlib.Core.Bool.{Bool, true, false}
 use mathlib.Core.List.{List, [], _++_}
 use mathlib.Core.Option.{Option, some, none}
 use mathlib.Core.Path.{_≡_, refl, sym, ap, _∙_}
 use native.Mathlib.Omega.{arith}
+use mir.Syntax.{w64}
+use mir.Val.{Fits}
 use lib.Dec.{eqb, leb}
 use lib.ListN.{length, take, drop, set, length-set}
 use borrow.Author.Tests.{eqb-true, eqb-false, le-leb, lt-leb}
 use Rattle.laws.specs.If.{if_then_else_}
 use Rattle.line_words.specs.Split.{firstFrom}
-use Rattle.line_words.proofs.Parts.{part-last, part-more}
+use Rattle.line_words.proofs.Parts.{find-le, part-last, part-more}
 use Rattle.pairs.specs.Into.{Outcome, isDash, prepend, countOf, over, Room, readInto}
 use Rattle.pairs.specs.declared.Read.the-variants as Read
 use Rattle.pairs.proofs.Into.{plus, plus-zero, count-more, count-none, count-all, room-some, room-here, room-next, store-more, store-all}
@@ -106,3 +108,22 @@ module _ {A : Type 0} (f : List ℕ → Option A) (sep : ℕ) (w : List ℕ) (to
 
   pub some-values : (o : Outcome A) → dash ≡ false → o ≡ readInto (itemsOf f sep w) to → o ≡ readInto (listOf f sep w) to
   some-values o e h = rw (← says, e) h
+
+-- ---- the place behind an item
+
+module _ (sep at end : ℕ) (w : List ℕ) (found : end ≡ firstFrom sep at w) where
+  -- as many items as places so far, one more of both
+  pub next-above : (n : ℕ) → n ≤ at → n + 1 ≤ end + 1
+  next-above n h = omega arith
+
+  module _ (inside : at ≤ length w) where
+    pub item-inside : end ≤ length w
+    item-inside = find-le sep at end w found inside
+
+    pub next-inside : end + 1 ≤ length w + 1
+    next-inside = omega (arith, item-inside)
+
+    pub next-fits : length w * 1 < 2 ^ 63 → Fits w64 (end + 1)
+    next-fits short = omega (arith, item-inside)
+
+pub ruleset behind = (next-above, item-inside, next-inside, next-fits)

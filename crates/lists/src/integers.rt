@@ -5,7 +5,6 @@ ghost use lib.ListN.{length, take, drop};
 ghost use Rattle.decimals.specs.Decimal.{integerOf};
 ghost use Rattle.pairs.specs.Into.{countOf, over, Room, readInto};
 ghost use Rattle.lists.specs.Lists.{integer, itemsOf, listOf};
-use crate::items::item_end;
 use decimals::Integer;
 use decimals::read_integer;
 use pairs::Read;
@@ -35,7 +34,7 @@ fn count_integers(word: &[u8], sep: u8) -> Read
     let mut n = 0;
     let mut at = 0;
     while at <= word.len() {
-        let end = item_end(word, sep, at);
+        let end = line_words::find(word, sep, at);
         let Integer::Is(_value) = integer_in(word, at, end) else {
             return Read::Not;
         };
@@ -52,7 +51,7 @@ fn write_integers(word: &[u8], sep: u8, to: &mut [i32])
     let mut n = 0usize;
     let mut at = 0;
     while at <= word.len() {
-        let end = item_end(word, sep, at);
+        let end = line_words::find(word, sep, at);
         let Integer::Is(value) = integer_in(word, at, end) else {
             return;
         };

@@ -4,7 +4,6 @@
 // is written. Bytes are read in `pairs`, doubles in `double_lists`. The call takes 56 bytes of stack with its
 // return address (measured on the x86-64 code at -O3).
 mod integers;
-mod items;
 
 pub use integers::read_integers;
 pub use pairs::Read;

@@ -13,7 +13,7 @@ use Rattle.pairs.specs.Into.{countOf}
 use Rattle.pairs.specs.declared.Read.the-variants as Read
 use Rattle.pairs.proofs.Into.{plus}
 use Rattle.lists.specs.Lists.{itemsOf}
-use Rattle.lists.proofs.Values.{left, counted-first, counted-more, counted-none, counted-all}
+use Rattle.lists.proofs.Values.{behind, left, counted-first, counted-more, counted-none, counted-all}
 use Rattle.double_lists.specs.Doubles.{doubleSaid, double}
 use Rattle.double_lists.proofs.doubles.count_doubles.Statement.{statement}
 use Rattle.double_lists.proofs.doubles.count_doubles.Tie as tie
@@ -33,7 +33,7 @@ module _ (sep : ℕ) (w : List ℕ) (n at end : ℕ) (r : Hex) (inv : countOf (i
   none : r ≡ Hex.Not → Read.Not ≡ countOf (itemsOf double sep w)
   none e = counted-none double sep w n at inv end found inside within (ap doubleSaid (sym says ∙ e))
 
-ruleset laws = (counted-first, counted-all, again, none, needs)
+ruleset laws = (behind, counted-first, counted-all, again, none, needs)
 
 pub count-doubles-spec : {M : Type 1} → statement M
 count-doubles-spec =
@@ -42,7 +42,7 @@ count-doubles-spec =
     Inv-loop
     μ-loop
     (λ c. search laws)  -- loop-holds
-    (λ c κs. search laws)  -- item-end-requires
+    (λ c κs. search laws)  -- find-requires
     (λ c κs. search laws)  -- pattern-in-requires
     (λ c. search laws)  -- enum-known--bits
     (λ c. search laws)  -- enum-told

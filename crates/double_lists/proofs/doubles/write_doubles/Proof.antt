@@ -15,7 +15,7 @@ use Rattle.digits.specs.declared.read.Hex.{Hex}
 use Rattle.digits.specs.declared.read.Hex.the-variants as Hex
 use Rattle.pairs.specs.Into.{over, Room}
 use Rattle.lists.specs.Lists.{itemsOf}
-use Rattle.lists.proofs.Values.{left, room-first, stored-first, has-place, stored-more, room-more, stored-none, stored-all}
+use Rattle.lists.proofs.Values.{behind, left, room-first, stored-first, has-place, stored-more, room-more, stored-none, stored-all}
 use Rattle.double_lists.specs.Doubles.{doubleSaid, double}
 use Rattle.double_lists.proofs.doubles.write_doubles.Statement.{statement}
 use Rattle.double_lists.proofs.doubles.write_doubles.Tie as tie
@@ -51,7 +51,7 @@ module _ (sep : ℕ) (w : List ℕ) (to₀ to : List Float) (n at end : ℕ) (r 
   never : r ≡ Hex.Not → to ≡ over (itemsOf double sep w) to₀
   never e = stored-none double sep w to₀ to n at inv room end found inside within (ap doubleSaid (sym says ∙ e))
 
-ruleset laws = (room-first, stored-first, place, place-fits, again, room-again, never, stored-all, needs)
+ruleset laws = (behind, room-first, stored-first, place, place-fits, again, room-again, never, stored-all, needs)
 
 pub write-doubles-spec : {M : Type 1} → statement M
 write-doubles-spec =
@@ -60,7 +60,7 @@ write-doubles-spec =
     Inv-loop
     μ-loop
     (λ c. search laws)  -- loop-holds
-    (λ c κs. search laws)  -- item-end-requires
+    (λ c κs. search laws)  -- find-requires
     (λ c κs. search laws)  -- pattern-in-requires
     (λ c. search laws)  -- enum-known-bits
     (λ c. search laws)  -- enum-told

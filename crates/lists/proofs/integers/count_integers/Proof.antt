@@ -14,7 +14,7 @@ use Rattle.pairs.specs.Into.{countOf}
 use Rattle.pairs.specs.declared.Read.the-variants as Read
 use Rattle.pairs.proofs.Into.{plus}
 use Rattle.lists.specs.Lists.{integerSaid, integer, itemsOf}
-use Rattle.lists.proofs.Values.{left, counted-first, counted-more, counted-none, counted-all}
+use Rattle.lists.proofs.Values.{behind, left, counted-first, counted-more, counted-none, counted-all}
 use Rattle.lists.proofs.integers.count_integers.Statement.{statement}
 use Rattle.lists.proofs.integers.count_integers.Tie as tie
 
@@ -33,7 +33,7 @@ module _ (sep : ℕ) (w : List ℕ) (n at end : ℕ) (r : Integer) (inv : countO
   none : r ≡ Integer.Not → Read.Not ≡ countOf (itemsOf integer sep w)
   none e = counted-none integer sep w n at inv end found inside within (ap integerSaid (sym says ∙ e))
 
-ruleset laws = (counted-first, counted-all, again, none, needs)
+ruleset laws = (behind, counted-first, counted-all, again, none, needs)
 
 pub count-integers-spec : {M : Type 1} → statement M
 count-integers-spec =
@@ -42,7 +42,7 @@ count-integers-spec =
     Inv-loop
     μ-loop
     (λ c. search laws)  -- loop-holds
-    (λ c κs. search laws)  -- item-end-requires
+    (λ c κs. search laws)  -- find-requires
     (λ c κs. search laws)  -- integer-in-requires
     (λ c. search laws)  -- enum-known--value
     (λ c. search laws)  -- enum-told

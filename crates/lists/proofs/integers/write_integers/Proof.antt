@@ -17,7 +17,7 @@ use Rattle.decimals.specs.declared.integer.Integer.{Integer}
 use Rattle.decimals.specs.declared.integer.Integer.the-variants as Integer
 use Rattle.pairs.specs.Into.{over, Room}
 use Rattle.lists.specs.Lists.{integerSaid, integer, itemsOf}
-use Rattle.lists.proofs.Values.{left, room-first, stored-first, has-place, stored-more, room-more, stored-none, stored-all}
+use Rattle.lists.proofs.Values.{behind, left, room-first, stored-first, has-place, stored-more, room-more, stored-none, stored-all}
 use Rattle.lists.proofs.integers.write_integers.Statement.{statement}
 use Rattle.lists.proofs.integers.write_integers.Tie as tie
 
@@ -59,7 +59,7 @@ module _ (sep : ℕ) (w : List ℕ) (to₀ to : List ℤ) (n at end : ℕ) (r : 
   never : r ≡ Integer.Not → to ≡ over (itemsOf integer sep w) to₀
   never e = stored-none integer sep w to₀ to n at inv room end found inside within (ap integerSaid (sym says ∙ e))
 
-ruleset laws = (room-first, stored-first, place, place-fits, again, room-again, never, stored-all, needs)
+ruleset laws = (behind, room-first, stored-first, place, place-fits, again, room-again, never, stored-all, needs)
 
 pub write-integers-spec : {M : Type 1} → statement M
 write-integers-spec =
@@ -68,7 +68,7 @@ write-integers-spec =
     Inv-loop
     μ-loop
     (λ c. search laws)  -- loop-holds
-    (λ c κs. search laws)  -- item-end-requires
+    (λ c κs. search laws)  -- find-requires
     (λ c κs. search laws)  -- integer-in-requires
     (λ c. search laws)  -- enum-known-value
     (λ c. search laws)  -- enum-told
