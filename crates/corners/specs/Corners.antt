@@ -1,7 +1,7 @@
 -- Document 01, "Corners": "With v1 into and v2 out of a point, it is a corner when c·|cross| - s·dot ≥ 0. Closed lists drop the last point unseen
 -- and wrap; open lists flag both ends." Whole numbers only.
 use Prim.Native.Nat.{ℕ, zero, suc, _-_}
-use mathlib.Core.Bool.{Bool, true, false, not, _&&_, _||_}
+use mathlib.Core.Bool.{Bool, not, _&&_, _||_}
 use mathlib.Core.List.{List, [], _∷_}
 use lib.Dec.{eqb}
 use lib.IntN.{ℤ, pos, natAbs, _+ℤ_, _-ℤ_, _*ℤ_}

@@ -3,7 +3,7 @@ ghost use Prim.Native.Nat.{_≤_};
 ghost use mathlib.Core.Path.{_≡_};
 ghost use lib.IntN.{natAbs, _+ℤ_, _*ℤ_};
 ghost use Rattle.measures.specs.Lengths.{half, middle, lengthOf, lengthOfI32};
-ghost use Rattle.measures.specs.Calls.{fine, fineI32, middleOf, normOf, normOfI32};
+ghost use Rattle.measures.specs.Calls.{fine, middleOf, normOf, normOfI32};
 use crate::Measure;
 use crate::MidPoint;
 use point::PointF64;

@@ -1,9 +1,9 @@
 -- Where a span of points of i32 is split: at a distance that none inside exceeds, the earliest of equals. Assumes nothing.
-use Prim.Native.Nat.{ℕ, zero, suc, _+_, _-_, _≤_, _<_}
-use mathlib.Core.Bool.{Bool, true, false}
+use Prim.Native.Nat.{ℕ, zero, suc, _-_, _≤_, _<_}
+use mathlib.Core.Bool.{true, false}
 use mathlib.Core.List.{List}
 use mathlib.Core.Logic.{_⊎_, inl, inr}
-use mathlib.Core.Path.{_≡_, refl, sym, ap, subst, _∙_}
+use mathlib.Core.Path.{_≡_, refl, ap, subst, _∙_}
 use native.Mathlib.Nat.{le-refl, eq-or-lt-of-le}
 use native.Mathlib.Omega.{arith}
 use lib.IntN.{ℤ}
@@ -14,7 +14,7 @@ use Rattle.spans.specs.declared.span.Far.{Far}
 use Rattle.spans.specs.Farthest.{distanceIn, farther, farthest}
 use Rattle.spans.specs.Small.{Small}
 use Rattle.spans.proofs.Distances.{distance-nonneg, distance-fits}
-use Rattle.spans.proofs.Folds.{far, Over, over-first, over-rest, farther-taken, farther-kept, by-test, farther-any}
+use Rattle.spans.proofs.Folds.{far, Over, over-first, over-rest, by-test, farther-any}
 use Rattle.split.specs.Spans.{Distance}
 use Rattle.split.specs.Tree.{spanTree}
 use Rattle.split.proofs.Trees.{Each, by-spans, middle, reach, split-inside}

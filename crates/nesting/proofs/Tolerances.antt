@@ -1,14 +1,9 @@
 -- A tolerance may be any float. Against numbers that are 0 at least it acts in one of three ways: a NaN is below none of them, what is
 -- negative is below all, and what is 0 at least has its place in their order. So what the order says of the last holds of all. Assumes nothing.
-use Prim.Native.Nat.{ℕ, zero, suc, _+_, _*_, _<_}
+use Prim.Native.Nat.{zero, suc}
 use mathlib.Core.Bool.{true, false, _&&_, true≢false}
 use mathlib.Core.Path.{_≡_, refl, sym, _∙_}
-use native.Mathlib.Nat.{mul-pos, zero-lt-suc, zero-mul}
-use native.Mathlib.Omega.{arith}
-use lib.IntN.{ℤ}
-use lib.Ieee.{Float, nan, inf, fin, up, down, lt}
-use lib.Ieee.Fits.{up-pos, down-pos}
-use borrow.Author.Tests.{lt-ltb}
+use lib.Ieee.{Float, nan, inf, fin, lt}
 use Rattle.laws.specs.Order.{AtLeastZero, ge-transitive, lt-le-transitive, le-lt-transitive}
 use Rattle.laws.specs.Least.{least, least-cases, lt-least}
 use Rattle.spans.proofs.Distances.{under-all}

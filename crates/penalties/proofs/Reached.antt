@@ -7,7 +7,7 @@ use native.Mathlib.Nat.{zero-mul}
 use native.Mathlib.Numerals.{add-one}
 use native.Mathlib.Omega.{arith}
 use lib.IntN.{pos}
-use lib.Ieee.{Float, nan, inf, fin, binary64, ofInt, up, down, isNan, lt, le}
+use lib.Ieee.{Float, nan, inf, fin, binary64, ofInt, up, down, isNan, lt}
 use lib.Ieee.Fits.{down-pos}
 use borrow.Author.Tests.{ltb-true, ltb-false, not-true, not-false}
 use Rattle.laws.specs.Compare.{le-is, le-nan}

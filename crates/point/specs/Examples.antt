@@ -3,7 +3,7 @@ use mathlib.Core.Bool.{true, false}
 use mathlib.Core.List.{[], _∷_}
 use mathlib.Core.Path.{_≡_, refl}
 use lib.IntN.{pos, negsuc}
-use lib.Ieee.{binary64, nan, inf, fin, ofInt, ofBits, le}
+use lib.Ieee.{binary64, nan, fin, ofInt, ofBits, le}
 use Rattle.point.specs.Limits.{badList, badPoints, badPointsF64, badTolerance, badSqTolerance}
 
 farthest : badPoints (pos 16383 ∷ negsuc 16382 ∷ []) ≡ false

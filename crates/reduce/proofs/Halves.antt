@@ -1,11 +1,11 @@
 -- Half the square of a tolerance is a squared tolerance that the radial pass takes. Assumes nothing.
-use Prim.Native.Nat.{ℕ, _*_}
+use Prim.Native.Nat.{_*_}
 use mathlib.Core.Bool.{true, false, not, _&&_, true≢false}
 use mathlib.Core.Path.{_≡_, refl, ap, ap₂, _∙_}
 use native.Mathlib.Omega.{arith}
 use lib.Dec.{lit≤}
 use lib.IntN.{pos}
-use lib.Ieee.{Float, nan, inf, fin, binary64, up, down, ofInt, ofBits, mul, le, lt}
+use lib.Ieee.{Float, nan, inf, fin, binary64, up, down, ofInt, ofBits, mul, lt}
 use borrow.Author.Tests.{not-false, le-ltb}
 use Rattle.laws.specs.Compare.{le-is}
 use Rattle.laws.specs.Finite.{Below, NonNeg, below-number, mul-below, mul-nonneg, square-nonneg, ofInt-below, ofInt-nonneg}

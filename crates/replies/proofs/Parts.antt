@@ -7,7 +7,7 @@ use native.Mathlib.Omega.{arith}
 use lib.Ieee.{Float}
 use lib.IntN.{ℤ}
 use lib.ListN.{length, take, length-take}
-use Rattle.texts.specs.Put.{Outcome, put}
+use Rattle.texts.specs.Put.{put}
 use Rattle.replies.specs.Reply.{pointsText, numbersText}
 use Rattle.replies.proofs.Sizes.{length-points, length-numbers}
 

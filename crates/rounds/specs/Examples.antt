@@ -1,13 +1,11 @@
 -- Document 01: "Square (0,0) (4,0) (4,4) (0,4) (0,0), ratio 8, length 1, no corners: (2,-0.5) enters after (0,0); with (0,0) a corner, (2,-0.25);
 -- all corners: nothing enters, finished."
-use Prim.Native.Nat.{ℕ}
-use mathlib.Core.Bool.{Bool, true, false}
+use mathlib.Core.Bool.{true}
 use mathlib.Core.List.{List, [], _∷_}
-use mathlib.Core.Option.{Option, some, none}
+use mathlib.Core.Option.{some}
 use mathlib.Core.Path.{_≡_, refl}
-use lib.IntN.{ℤ, pos, negsuc}
-use lib.Ieee.{Float, binary64, ofInt, ofBits, add, sub, mul, div, lt, le, eq, ne, toBits, size, nearest, units}
-use Rattle.point.specs.declared.PointF64.{PointF64}
+use lib.IntN.{ℤ, pos}
+use lib.Ieee.{Float, binary64, ofInt, ofBits, add, sub, mul, div, lt, le}
 use Rattle.sqrt.specs.Root.{rootOf}
 use Rattle.scheme.specs.declared.Settings.{Settings}
 use Rattle.segments.specs.Segments.{enteringBehind}

@@ -9,7 +9,6 @@ use native.Mathlib.Omega.{arith}
 use lib.IntN.{ℤ}
 use lib.Ieee.{Float, neg, lt}
 use borrow.Author.Tests.{lt-ltb, le-ltb}
-use Rattle.laws.specs.If.{if_then_else_}
 use Rattle.outline.specs.Points.{count}
 use Rattle.spans.specs.declared.span.Far.{Far}
 use Rattle.spans.specs.Distance.{one64}

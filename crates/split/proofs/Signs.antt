@@ -4,7 +4,7 @@ use Prim.Native.Nat.{ℕ, suc, _-_, _*_}
 use mathlib.Core.Bool.{true, false, true≢false}
 use mathlib.Core.List.{List}
 use mathlib.Core.Logic.{_⊎_, inl, inr}
-use mathlib.Core.Path.{_≡_, refl, sym, _∙_}
+use mathlib.Core.Path.{_≡_, refl, sym}
 use lib.Dec.{T}
 use lib.IntN.{ℤ}
 use lib.Ieee.{Float, nan, inf, fin, binary64, up, down, add, mul, lt, fits}
@@ -12,7 +12,7 @@ use Rattle.laws.specs.Finite.{NonNeg, infinity-nonneg, round-nonneg, add-nonneg
 use Rattle.laws.specs.Least.{least, least-cases}
 use Rattle.point.specs.declared.PointI32.{PointI32}
 use Rattle.spans.specs.Distance.{squares, sqSegDist}
-use Rattle.spans.specs.Farthest.{distanceIn, farther, farthest}
+use Rattle.spans.specs.Farthest.{distanceIn, farthest}
 use Rattle.spans.proofs.Distances.{distance-fits}
 use Rattle.spans.proofs.Folds.{far, farther-any}
 use Rattle.split.specs.Spans.{Distance}

@@ -11,7 +11,7 @@ use lib.IntN.{ℤ}
 use lib.Ieee.{Float}
 use borrow.Author.Tests.{ltb-true, ltb-false, lt-ltb, le-ltb}
 use Rattle.spans.specs.declared.span.Far.{Far}
-use Rattle.spans.specs.Farthest.{distanceIn, farther, farthest}
+use Rattle.spans.specs.Farthest.{distanceIn, farthest}
 use Rattle.spans.proofs.Folds.{far as farAt, farther-within}
 use Rattle.split.specs.Tree.{Tree, leaf, node, treeOf, spanTree, size}
 

@@ -1,7 +1,7 @@
 -- Document 01, "Both sides of each edge": P1 to P12, one theorem over the definitions. Each line quotes document 01 and stands for the
 -- definition that the call's contract cites, so it says what the call answers and what the buffers lent to it then hold.
 use Prim.Native.Nat.{ℕ, _*_}
-use mathlib.Core.Bool.{Bool, true, false}
+use mathlib.Core.Bool.{true, false}
 use mathlib.Core.List.{List, [], _∷_}
 use mathlib.Core.Path.{_≡_, refl}
 use lib.IntN.{ℤ, pos}

@@ -17,7 +17,7 @@ use Rattle.refusals.specs.declared.Refusal.{Refusal}
 use Rattle.refusals.specs.declared.Refusal.the-variants.{BadSize, BadPoint}
 use Rattle.bitmap.specs.Pixels.{badChart, pixelAt, aroundOf}
 use Rattle.bitmap.specs.declared.Chart.{Chart}
-use Rattle.walks.specs.Walk.{Pixels, Way, Walker, exit, taken, atStart, moved, ends, run, Walk, closed, no-way, stuck, after, walkFrom, Outcome, laid, ended, refusal, outcome, walked}
+use Rattle.walks.specs.Walk.{Pixels, Way, Walker, exit, taken, atStart, moved, ends, run, Walk, closed, no-way, stuck, after, walkFrom, laid, ended, refusal, outcome, walked}
 use Rattle.walks.specs.Answers.{walkedNumber, walkedCount}
 use Rattle.walks.specs.Course.{firstExit, wentOn}
 use Rattle.walks.specs.declared.Walked.{Walked}

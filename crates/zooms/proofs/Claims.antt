@@ -1,6 +1,6 @@
 -- What follows of the contracts, for their readers and their callers. Assumes nothing.
 use Prim.Native.Nat.{ℕ, _*_, _≤_}
-use mathlib.Core.Bool.{Bool, true, false, not, _||_}
+use mathlib.Core.Bool.{not, _||_}
 use mathlib.Core.List.{List}
 use mathlib.Core.Option.{Option, some, none}
 use mathlib.Core.Path.{_≡_, refl, sym, ap₂, _∙_}
@@ -13,11 +13,10 @@ use borrow.Author.Tests.{ltb-false}
 use denote.Ref.{now}
 use Rattle.point.specs.Limits.{tooMany, badPoints, badSqTolerance, placesFor}
 use Rattle.point.specs.Points.{points}
-use Rattle.refusals.specs.Refusals.{refuse_when_or_, countOf}
+use Rattle.refusals.specs.Refusals.{countOf}
 use Rattle.refusals.specs.declared.Answer.the-variants.{Refused}
 use Rattle.refusals.specs.declared.Refusal.{Refusal}
 use Rattle.outline.specs.Points.{count}
-use Rattle.outline.proofs.Flat.{length-points}
 use Rattle.outline.proofs.Room.{places-enough}
 use Rattle.keeping.specs.Calls.{shortFor}
 use Rattle.keeping.specs.Kept.{kept, marksBy}

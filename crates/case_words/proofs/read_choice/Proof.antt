@@ -4,7 +4,7 @@ use mathlib.Core.List.{List}
 use mathlib.Core.Path.{_≡_}
 use lib.ListN.{length, getD}
 use borrow.Author.Needs.{needs}
-use borrow.Author.Tests.{eq-eqb, ne-eqb}
+use borrow.Author.Tests.{ne-eqb}
 use Rattle.case_words.specs.Words.{choiceOf}
 use Rattle.case_words.proofs.read_choice.Statement.{statement}
 use Rattle.case_words.proofs.read_choice.Tie as tie

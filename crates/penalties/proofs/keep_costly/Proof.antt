@@ -1,5 +1,5 @@
 -- `penalties::keep_costly` meets its contract: up to two points by their number, and more by `keep_many`. Assumes nothing.
-use Prim.Native.Nat.{_*_, _<_, _≤_}
+use Prim.Native.Nat.{_*_, _≤_}
 use mathlib.Core.List.{List, [], _∷_}
 use mathlib.Core.Path.{_≡_, sym, ap, _∙_}
 use native.Mathlib.Omega.{arith}

@@ -1,6 +1,6 @@
 -- `segments::enter` meets its contract. Assumes nothing.
 use Prim.Native.Nat.{ℕ, _<_, _≤_}
-use mathlib.Core.Bool.{Bool, true, false, _||_}
+use mathlib.Core.Bool.{Bool, true, false}
 use mathlib.Core.List.{List}
 use mathlib.Core.Option.{some, none}
 use mathlib.Core.Path.{_≡_, refl, sym, ap, _∙_}
@@ -12,10 +12,10 @@ use Rattle.laws.specs.If.{if_then_else_}
 use Rattle.point.specs.declared.PointF64.{PointF64}
 use Rattle.scheme.specs.declared.Settings.{Settings}
 use Rattle.scheme.specs.declared.Entering.{Entering}
-use Rattle.scheme.specs.declared.Entering.the-variants.{Nothing, Point}
+use Rattle.scheme.specs.declared.Entering.the-variants.{Nothing}
 use Rattle.scheme.specs.Scheme.{newPoint, skippedBy, settledBy, placedBy}
 use Rattle.scheme.specs.Places.{count, placeAt}
-use Rattle.segments.specs.Segments.{isCorner, prevOf, nextOf, prevKept, nextKept, pinned, skipped, entering, settled, entered, enteredBetween}
+use Rattle.segments.specs.Segments.{isCorner, prevOf, nextOf, prevKept, nextKept, pinned, skipped, entering, entered, enteredBetween}
 use Rattle.segments.proofs.enter.Statement.{statement}
 use Rattle.segments.proofs.enter.Tie as tie
 

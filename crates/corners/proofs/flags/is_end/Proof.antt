@@ -1,5 +1,5 @@
 -- `corners::is_end` meets its contract: its two tests, joined. Assumes nothing.
-use Prim.Native.Nat.{ℕ, suc, _+_}
+use Prim.Native.Nat.{ℕ, _+_}
 use mathlib.Core.Path.{_≡_}
 use native.Mathlib.Numerals.{add-one}
 use lib.Dec.{eqb}

@@ -1,13 +1,13 @@
 -- `corners::dot` meets its contract: a cross product of turned vectors is the dot product, and it is small. Assumes nothing.
 use Prim.Native.Nat.{_+_, _≤_}
-use mathlib.Core.Path.{_≡_, refl, ap, _∙_}
+use mathlib.Core.Path.{_≡_, ap, _∙_}
 use native.Mathlib.Omega.{arith}
 use mir.Syntax.{w32, w64}
 use mir.Val.{ofZ, toZ}
-use lib.IntN.{ℤ, pos, negsuc, negℤ, natAbs, _+ℤ_, _-ℤ_, _*ℤ_, *ℤ-comm}
+use lib.IntN.{ℤ, pos, negℤ, natAbs, _+ℤ_, _-ℤ_, _*ℤ_, *ℤ-comm}
 use borrow.Author.Needs.{needs}
 use Rattle.laws.specs.Integers.{abs-mul-le, abs-add-le}
-use Rattle.laws.specs.Ring.{P, N, eq-pn, add-pn, sub-pn, neg-pn, *ℤ-negℤ}
+use Rattle.laws.specs.Ring.{eq-pn, add-pn, sub-pn, neg-pn, *ℤ-negℤ}
 use Rattle.util.specs.Area.{crossOf}
 use Rattle.util.proofs.ByBits.{turned, by-bits}
 use Rattle.corners.proofs.Bits.{wide-by-bits, small-by-bits}

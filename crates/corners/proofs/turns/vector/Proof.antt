@@ -1,7 +1,6 @@
 -- `corners::vector` meets its contract. Assumes nothing.
 use Prim.Native.Nat.{_≤_}
 use mathlib.Core.Path.{_≡_}
-use native.Mathlib.Omega.{arith}
 use mir.Syntax.{w32}
 use mir.Val.{ofZ, toZ}
 use lib.IntN.{ℤ, natAbs, _-ℤ_}

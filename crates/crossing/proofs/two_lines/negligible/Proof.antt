@@ -1,5 +1,5 @@
 -- `crossing::negligible` meets its contract: its two tests, joined. Assumes nothing.
-use mathlib.Core.Bool.{Bool, true, false}
+use mathlib.Core.Bool.{true, false}
 use mathlib.Core.Path.{_≡_}
 use lib.Ieee.{Float, neg, lt}
 use borrow.Author.Needs.{needs}

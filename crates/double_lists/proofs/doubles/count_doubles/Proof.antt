@@ -1,6 +1,6 @@
 -- `double_lists::count_doubles` meets its contract. The loop's invariant: `n` doubles are counted, and what stands from `at` on decides.
 -- Assumes nothing.
-use Prim.Native.Nat.{ℕ, _+_, _-_, _≤_, _<_}
+use Prim.Native.Nat.{ℕ, _+_, _-_, _≤_}
 use mathlib.Core.List.{List}
 use mathlib.Core.Path.{_≡_, sym, ap, _∙_}
 use lib.ListN.{length, take, drop}

@@ -1,10 +1,10 @@
 -- `keeping::keep_marked` meets its contract: one point is written twice, and of any other list the marked points. Assumes nothing.
-use Prim.Native.Nat.{ℕ, _+_, _-_, _*_, _/_, _<_, _≤_}
-use mathlib.Core.List.{List, [], _∷_}
-use mathlib.Core.Path.{_≡_, sym, ap, _∙_}
+use Prim.Native.Nat.{ℕ, _/_, _<_, _≤_}
+use mathlib.Core.List.{List}
+use mathlib.Core.Path.{_≡_, sym, _∙_}
 use native.Mathlib.Omega.{arith}
 use lib.IntN.{ℤ}
-use lib.ListN.{length, drop, getD, drop-of-length-le}
+use lib.ListN.{length}
 use borrow.Author.Needs.{needs}
 use borrow.Author.Tests.{lt-ltb, le-ltb}
 use Rattle.point.specs.Limits.{placesFor}
@@ -13,15 +13,14 @@ use Rattle.refusals.specs.declared.Answer.the-variants.{Done, Refused}
 use Rattle.point.specs.declared.PointI32.{PointI32}
 use Rattle.refusals.specs.declared.Refusal.the-variants.{NoRoom}
 use Rattle.outline.specs.Points.{count, pointAt}
-use Rattle.outline.specs.Written.{Handed, Left}
+use Rattle.outline.specs.Written.{Handed}
 use Rattle.outline.proofs.Flat.{length-points, points-at}
 use Rattle.outline.proofs.Room.{too-short, long-enough, places-enough}
-use Rattle.outline.proofs.Written.{begun, passed, room, taken, ended, put-twice}
+use Rattle.outline.proofs.Written.{room, put-twice}
 use Rattle.keeping.specs.Calls.{keptMarkedOf}
 use Rattle.keeping.specs.Place.{placed}
 use Rattle.keeping.specs.Kept.{select, kept}
-use Rattle.keeping.proofs.Select.{select-shorter, no-points, kept-single, kept-many}
-use Rattle.keeping.proofs.Marks.{marked, unmarked}
+use Rattle.keeping.proofs.Select.{kept-single, kept-many}
 use Rattle.keeping.proofs.marked.keep_marked.Statement.{statement}
 use Rattle.keeping.proofs.marked.keep_marked.Tie as tie
 

@@ -1,6 +1,6 @@
 -- `lists::count_integers` meets its contract. The loop's invariant: `n` integers are counted, and what stands from `at` on decides.
 -- Assumes nothing.
-use Prim.Native.Nat.{ℕ, _+_, _-_, _≤_, _<_}
+use Prim.Native.Nat.{ℕ, _+_, _-_, _≤_}
 use mathlib.Core.List.{List}
 use mathlib.Core.Path.{_≡_, sym, ap, _∙_}
 use lib.IntN.{ℤ}

@@ -1,5 +1,5 @@
 -- `ratios::off` meets its contract: its two tests, joined. Assumes nothing.
-use mathlib.Core.Bool.{Bool, true, false}
+use mathlib.Core.Bool.{true, false}
 use mathlib.Core.Path.{_≡_}
 use lib.Ieee.{Float, binary64, ofInt, ofBits, add, sub, lt}
 use borrow.Author.Needs.{needs}

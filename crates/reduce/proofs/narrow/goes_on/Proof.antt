@@ -4,7 +4,6 @@ use mathlib.Core.Bool.{Bool, true, false, _||_}
 use mathlib.Core.Path.{_≡_}
 use lib.Dec.{leb}
 use lib.Ieee.{Float, binary64, ofBits, eq}
-use borrow.Author.Needs.{needs}
 use Rattle.point.specs.Limits.{badTolerance}
 use Rattle.reduce.specs.Ready.{short, goesOn}
 use Rattle.reduce.proofs.narrow.goes_on.Statement.{statement}

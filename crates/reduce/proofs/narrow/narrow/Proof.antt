@@ -14,11 +14,11 @@ use lib.ListN.{length, take}
 use borrow.Author.Needs.{needs}
 use borrow.Author.Tests.{le-ltb}
 use Rattle.laws.specs.Lists.{over, length-over, take-over-all}
-use Rattle.point.specs.Limits.{tooMany, badPoints, badSqTolerance, placesFor}
+use Rattle.point.specs.Limits.{tooMany, badPoints, placesFor}
 use Rattle.point.specs.Points.{flat, points}
 use Rattle.refusals.specs.Refusals.{countOf, refuse_when_or_}
 use Rattle.refusals.specs.declared.Answer.{Answer}
-use Rattle.refusals.specs.declared.Answer.the-variants.{Done, Refused}
+use Rattle.refusals.specs.declared.Answer.the-variants.{Refused}
 use Rattle.point.specs.declared.PointI32.{PointI32}
 use Rattle.refusals.specs.declared.Refusal.the-variants.{BadPoint}
 use Rattle.outline.specs.Points.{count}
@@ -33,10 +33,10 @@ use Rattle.keeping.proofs.Marks.{kept-over}
 use Rattle.radial_dist.specs.Radial.{radial}
 use Rattle.radial_dist.specs.Calls.{radialOutcome, radialOf}
 use Rattle.radial_dist.proofs.Far.{radial-shorter, radial-some}
-use Rattle.reduce.specs.Calls.{reduceOutcome, reduceOf}
+use Rattle.reduce.specs.Calls.{reduceOf}
 use Rattle.reduce.specs.Ready.{short, goesOn}
 use Rattle.reduce.proofs.Halves.{half-fine}
-use Rattle.reduce.proofs.Lines.{inWhole, many-points, answers-narrowed, on-tolerance, on-room, on-narrowed, out-room, scratch-room, marks-room}
+use Rattle.reduce.proofs.Lines.{many-points, answers-narrowed, on-tolerance, on-room, on-narrowed, out-room, scratch-room, marks-room}
 use Rattle.reduce.proofs.narrow.narrow.Statement.{statement}
 use Rattle.reduce.proofs.narrow.narrow.Tie as tie
 

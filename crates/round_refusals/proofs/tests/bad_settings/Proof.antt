@@ -1,5 +1,5 @@
 -- `round_refusals::bad_settings` meets its contract. Its limits are those of the definition: antt computes both. Assumes nothing.
-use mathlib.Core.Bool.{Bool, true, false, not, _||_}
+use mathlib.Core.Bool.{Bool, true, false, not}
 use mathlib.Core.Path.{_≡_}
 use lib.Ieee.{binary64, ofBits, ofInt}
 use borrow.Author.Needs.{needs}

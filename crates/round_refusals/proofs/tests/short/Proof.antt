@@ -1,7 +1,7 @@
 -- `round_refusals::short` meets its contract. Assumes nothing.
 use Prim.Native.Nat.{ℕ, _*_, _-_, _/_, _<_, _≤_}
 use mathlib.Core.Bool.{true, false, _||_}
-use mathlib.Core.Path.{_≡_, refl}
+use mathlib.Core.Path.{_≡_}
 use native.Mathlib.Omega.{arith}
 use lib.Dec.{ltb}
 use borrow.Author.Needs.{needs}

@@ -1,8 +1,4 @@
 -- `round_refusals::too_few` meets its contract: its two tests, joined. Assumes nothing.
-use Prim.Native.Nat.{ℕ}
-use mathlib.Core.Bool.{Bool, true, _&&_}
-use mathlib.Core.Path.{_≡_}
-use lib.Dec.{ltb}
 use borrow.Author.Needs.{needs}
 use Rattle.laws.specs.Joined.{and-itself, and-second}
 use Rattle.round_refusals.proofs.tests.too_few.Statement.{statement}

@@ -46,7 +46,7 @@ use Rattle.spiral.proofs.spiral_advance as advance
 use Rattle.spiral.proofs.spiral_advance.Symbol as advance-def
 use Rattle.spiral.proofs.spiral_advance.Symbol.{name as #advance}
 use Rattle.spiral.proofs.spiral_advance.Met as advance-thm
-use Rattle.sandline_c.specs.Handed.{Counted, stepped, advancedTo}
+use Rattle.sandline_c.specs.Handed.{Counted, stepped}
 use Rattle.sandline_c.proofs.Values.{advance-told}
 use Rattle.sandline_c.proofs.spiralling.put_step as put
 use Rattle.sandline_c.proofs.spiralling.put_step.Symbol as put-def

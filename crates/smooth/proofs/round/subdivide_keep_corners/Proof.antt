@@ -1,6 +1,4 @@
 -- `smooth::subdivide_keep_corners` meets its contract: a refusal is handed on, and else the round. Assumes nothing.
-use Prim.Native.Nat.{ℕ}
-use mathlib.Core.Path.{_≡_, refl}
 use borrow.Author.Needs.{needs}
 use Rattle.round_refusals.proofs.Verdicts.{not-few, so-many, at-most, enough, enough-flags}
 use Rattle.smooth.proofs.Verdicts.{refused-outcome, done-outcome}

@@ -5,7 +5,6 @@ use mathlib.Core.Path.{_≡_, _∙_}
 use native.Mathlib.Omega.{arith}
 use lib.IntN.{ℤ}
 use lib.ListN.{length}
-use borrow.Author.Needs.{needs}
 use Rattle.spans.specs.declared.span.Far.{Far}
 use Rattle.spans.specs.Farthest.{farthest, farthestIn}
 use Rattle.spans.proofs.Folds.{found-in}

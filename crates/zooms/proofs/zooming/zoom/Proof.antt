@@ -15,7 +15,7 @@ use Rattle.refusals.specs.declared.Answer.the-variants.{Refused}
 use Rattle.refusals.specs.declared.Refusal.the-variants.{TooMany, BadPoint, TooFew, BadTolerance, NoRoom}
 use Rattle.outline.specs.Points.{count}
 use Rattle.keeping.specs.Calls.{shortFor, aboveOutcome, keptAboveOf}
-use Rattle.zooms.specs.Calls.{Points, zoomOutcome, zoomOf}
+use Rattle.zooms.specs.Calls.{zoomOutcome, zoomOf}
 use Rattle.zooms.proofs.zooming.zoom.Statement.{statement}
 use Rattle.zooms.proofs.zooming.zoom.Tie as tie
 
