@@ -1,5 +1,5 @@
--- What follows of the contract, for its readers and its callers; of the calls that are passed on it is said in their crates, and passed on here.
--- Assumes nothing.
+-- What follows of the contracts, for their readers and their callers; of the calls that are passed on it is said in their crates, and passed on
+-- here. Assumes nothing.
 use Prim.Native.Nat.{ℕ, _*_, _≤_}
 use mathlib.Core.Bool.{Bool, true, false, _||_}
 use mathlib.Core.List.{List}
@@ -12,7 +12,7 @@ use lib.IntN.{ℤ}
 use lib.ListN.{length}
 use denote.Ref.{now}
 use Rattle.laws.specs.Joined.{both-false}
-use Rattle.point.specs.Limits.{tooMany, badPoints, badTolerance, placesFor}
+use Rattle.point.specs.Limits.{tooMany, badPoints, badTolerance, badSqTolerance, placesFor}
 use Rattle.point.specs.Points.{flat, points}
 use Rattle.refusals.specs.Refusals.{countOf}
 use Rattle.refusals.specs.declared.Answer.the-variants.{Refused}
@@ -25,17 +25,23 @@ use Rattle.split.specs.Tree.{marksOf}
 use Rattle.keeping.specs.Calls.{shortFor}
 use Rattle.keeping.specs.Kept.{kept}
 use Rattle.keeping.proofs.Claims.{next, places, marks-fit}
-use Rattle.radial_dist.specs.Radial.{radial}
-use Rattle.radial_dist.proofs.Far.{radial-shorter}
-pub use Rattle.radial_dist.proofs.Claims.{radial-determined, radial-unchanged, radial-fits}
 pub use Rattle.douglas_peucker.proofs.Claims.{douglas-peucker-determined, douglas-peucker-unchanged, douglas-peucker-fits}
 pub use Rattle.zooms.proofs.Claims.{numbers-determined, zoom-determined, numbers-unchanged, zoom-unchanged, numbers-fit, zoom-fits}
-use Rattle.reduce.specs.Calls.{Reduced, reduceRefusal, reduceOutcome, reduceOf}
+use Rattle.reduce.specs.Radial.{radial}
+use Rattle.reduce.specs.Calls.{Points, radialRefusal, radialOutcome, radialOf, Reduced, reduceRefusal, reduceOutcome, reduceOf}
+use Rattle.reduce.proofs.radial.Far.{radial-shorter}
 use Rattle.reduce.proofs.Lines.{inWhole, many-points, answers-whole, answers-narrowed}
+use Rattle.reduce.proofs.radial.simplify_radial_dist.Reads.{Post as Radial}
 use Rattle.reduce.proofs.narrow.reduce.Reads.{Post as Reduce}
 
--- ---- the contract leaves no choice: of equal arguments it allows one answer, and one last content of every buffer. `Post` is the contract
+-- ---- each contract leaves no choice: of equal arguments it allows one answer, and one last content of every buffer. `Post` is the contract
 -- itself, as Rattle reads it off the source, at arguments `a`, a result `r` and parameters at exit `s`.
+
+pub radial-determined : (κs : _) (a a′ : _) (r r′ : _) (s s′ : _) → Radial κs a r s → Radial κs a′ r′ s′ →
+    now (a .0) ≡ now (a′ .0) → a .1 .0 ≡ a′ .1 .0 → now (a .1 .1 .0) ≡ now (a′ .1 .1 .0) →
+    _≡_ {A = Points} (record { answer = r; out = now (s .1 .1 .0) }) (record { answer = r′; out = now (s′ .1 .1 .0) })
+radial-determined κs a a′ r r′ s s′ p q list tolerance out =
+    p ∙ ap₂ (λ (l : List ℤ) (t : Float). radialOf l t (now (a .1 .1 .0))) list tolerance ∙ ap (radialOf (now (a′ .0)) (a′ .1 .0)) out ∙ sym q
 
 pub reduce-determined : (κs : _) (a a′ : _) (r r′ : _) (s s′ : _) → Reduce κs a r s → Reduce κs a′ r′ s′ →
     now (a .0) ≡ now (a′ .0) → a .1 .0 ≡ a′ .1 .0 → now (a .1 .1 .0) ≡ now (a′ .1 .1 .0) → now (a .1 .1 .1 .0) ≡ now (a′ .1 .1 .1 .0) →
@@ -50,6 +56,15 @@ reduce-determined κs a a′ r r′ s s′ p q list tolerance out scratch marks 
     ∙ sym q
 
 -- ---- a refusal changes no buffer
+
+pub radial-unchanged : (list : List ℤ) (tolerance : Float) (out : List ℤ) (r : Refusal) → radialOf list tolerance out .answer ≡ Refused r →
+    radialOf list tolerance out .out ≡ out
+unfolding radialOf
+radial-unchanged list tolerance out r = by (radialRefusal list tolerance out)
+  where
+    by : (o : Option Refusal) → radialOutcome o list tolerance out .answer ≡ Refused r → radialOutcome o list tolerance out .out ≡ out
+    by (some q) e = refl
+    by none e = let z : _≡_ {A = ℕ} 0 1 = cc in absurd (omega arith)
 
 pub reduce-unchanged : (list : List ℤ) (tolerance : Float) (out scratch : List ℤ) (marks : List ℕ) (r : Refusal) →
     reduceOf list tolerance out scratch marks .answer ≡ Refused r →
@@ -75,6 +90,18 @@ reduce-unchanged list tolerance out scratch marks r = by (reduceRefusal list tol
     by none e = absurd (none-refused (inWhole list tolerance) refl e)
 
 -- ---- what an answer counts has its place in the buffer
+
+pub radial-fits : (list : List ℤ) (tolerance : Float) (out : List ℤ) → countOf (radialOf list tolerance out .answer) * 2 ≤ length out
+unfolding radialOf
+radial-fits list tolerance out = by (radialRefusal list tolerance out) refl
+  where
+    by : (o : Option Refusal) → radialRefusal list tolerance out ≡ o → countOf (radialOutcome o list tolerance out .answer) * 2 ≤ length out
+    by (some q) e = omega arith
+    by none e =
+        let good = next _ (badPoints list) _ (next _ (tooMany (length list)) _ e .1) .1 in
+        let room = next _ (shortFor (count list) out) _ (next _ (badSqTolerance tolerance) _ good .1) .0 in
+        places (count list) (length (radial tolerance (points list))) out room
+        (omega (arith, radial-shorter tolerance (points list), length-points list, places-enough (count list)))
 
 pub reduce-fits : (list : List ℤ) (tolerance : Float) (out scratch : List ℤ) (marks : List ℕ) →
     countOf (reduceOf list tolerance out scratch marks .answer) * 2 ≤ length out

@@ -1,5 +1,5 @@
--- What `reduce` answers, and what every buffer lent to it then holds. A list is laid `over` the start of a buffer: "places past the answer hold
--- theirs". What the other calls answer is said in the crates `radial_dist`, `douglas_peucker` and `zooms`, and passed on here.
+-- What `simplify_radial_dist` and `reduce` answer, and what every buffer lent to them then holds. A list is laid `over` the start of a buffer:
+-- "places past the answer hold theirs". What the other calls answer is said in the crates `douglas_peucker` and `zooms`, and passed on here.
 use Prim.Native.Nat.{ℕ, _*_}
 use mathlib.Core.Bool.{true, false, _||_}
 use mathlib.Core.List.{List}
@@ -9,7 +9,7 @@ use lib.IntN.{ℤ, pos}
 use lib.Ieee.{Float, binary64, ofInt, ofBits, mul, eq}
 use lib.ListN.{length}
 use Rattle.laws.specs.Lists.{over}
-use Rattle.point.specs.Limits.{tooMany, badPoints, badTolerance}
+use Rattle.point.specs.Limits.{tooMany, badPoints, badTolerance, badSqTolerance}
 use Rattle.point.specs.Points.{flat, points}
 use Rattle.refusals.specs.Refusals.{refuse_when_or_}
 use Rattle.refusals.specs.declared.Answer.{Answer}
@@ -18,16 +18,34 @@ use Rattle.refusals.specs.declared.Refusal.{Refusal}
 use Rattle.refusals.specs.declared.Refusal.the-variants.{TooMany, BadPoint, BadTolerance, NoRoom}
 use Rattle.outline.specs.Points.{count}
 use Rattle.split.specs.Tree.{marksOf}
-use Rattle.keeping.specs.Calls.{shortFor}
+use Rattle.keeping.specs.Calls.{shortFor, handed}
 use Rattle.keeping.specs.Kept.{kept}
-use Rattle.radial_dist.specs.Radial.{radial}
 use Rattle.douglas_peucker.specs.Calls.{split}
 pub use Rattle.keeping.specs.Calls.{Points}
 pub use Rattle.douglas_peucker.specs.Calls.{Marked}
 pub use Rattle.zooms.specs.Calls.{Numbered}
-unfoldable pub use Rattle.radial_dist.specs.Calls.{radialOf}
 unfoldable pub use Rattle.douglas_peucker.specs.Calls.{douglasPeuckerOf}
 unfoldable pub use Rattle.zooms.specs.Calls.{numberedOf, zoomOf}
+use Rattle.reduce.specs.Radial.{radial}
+
+-- ---- simplify_radial_dist
+
+abbrev pub radialRefusal : List ℤ → Float → List ℤ → Option Refusal
+radialRefusal list tolerance out =
+    refuse TooMany when tooMany (length list) or
+    refuse BadPoint when badPoints list or
+    refuse BadTolerance when badSqTolerance tolerance or
+    refuse NoRoom when shortFor (count list) out or
+    none
+
+unfoldable pub radialOutcome : Option Refusal → List ℤ → Float → List ℤ → Points
+unfolding radial flat points over
+radialOutcome (some r) list tolerance out = record { answer = Refused r; out = out }
+radialOutcome none list tolerance out = handed (radial tolerance (points list)) out
+
+unfoldable pub radialOf : List ℤ → Float → List ℤ → Points
+unfolding radialOutcome
+radialOf list tolerance out = radialOutcome (radialRefusal list tolerance out) list tolerance out
 
 -- ---- reduce
 

@@ -1,6 +1,7 @@
--- What the crate promises. `Calls` says what `reduce` answers and what every lent buffer then holds: read it first. It and `Distance` pass on
--- what the calls of the crates below answer. `Ready` is for the functions inside.
+-- What the crate promises. `Calls` says what each call answers and what every lent buffer then holds: read it first; what the calls that are
+-- passed on answer it takes from their crates. `Radial` is the radial pass over the `Distance` of two points. `Ready` is for the functions inside.
 pub mod Distance
+pub mod Radial
 pub mod Calls
 pub mod Ready
 pub mod Examples

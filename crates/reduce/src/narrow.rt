@@ -8,6 +8,7 @@ ghost use Rattle.point.specs.Limits.{tooMany};
 ghost use Rattle.outline.specs.Points.{count};
 ghost use Rattle.reduce.specs.Ready.{short, goesOn};
 ghost use Rattle.reduce.specs.Calls.{reduceOf};
+use crate::radial::simplify_radial_dist;
 use point::Answer;
 use point::Refusal;
 
@@ -108,7 +109,7 @@ fn narrow(
         ≡ reduceOf (now (points .entry)) tolerance (now (out .entry)) (now (scratch .entry)) (now (marks .entry)) ⌝ }
 {
     let sq_tolerance = tolerance * tolerance;
-    let answer = radial_dist::simplify_radial_dist(points, sq_tolerance * 0.5, scratch);
+    let answer = simplify_radial_dist(points, sq_tolerance * 0.5, scratch);
     let kept = answer.count();
     if kept == 0 {
         return Answer::Refused(Refusal::BadPoint);

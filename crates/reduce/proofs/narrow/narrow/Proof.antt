@@ -30,12 +30,11 @@ use Rattle.split.proofs.Claims.{a-mark-for-each-point, marked-over}
 use Rattle.keeping.specs.Calls.{Points, handed, keptMarkedOf}
 use Rattle.keeping.proofs.Claims.{marked-handed}
 use Rattle.keeping.proofs.Marks.{kept-over}
-use Rattle.radial_dist.specs.Radial.{radial}
-use Rattle.radial_dist.specs.Calls.{radialOutcome, radialOf}
-use Rattle.radial_dist.proofs.Far.{radial-shorter, radial-some}
-use Rattle.reduce.specs.Calls.{reduceOf}
+use Rattle.reduce.specs.Radial.{radial}
+use Rattle.reduce.specs.Calls.{radialOutcome, radialOf, reduceOf}
 use Rattle.reduce.specs.Ready.{short, goesOn}
 use Rattle.reduce.proofs.Halves.{half-fine}
+use Rattle.reduce.proofs.radial.Far.{radial-shorter, radial-some}
 use Rattle.reduce.proofs.Lines.{many-points, answers-narrowed, on-tolerance, on-room, on-narrowed, out-room, scratch-room, marks-room}
 use Rattle.reduce.proofs.narrow.narrow.Statement.{statement}
 use Rattle.reduce.proofs.narrow.narrow.Tie as tie

@@ -5,7 +5,7 @@ use lib.Ieee.{Float, lt}
 use lib.Signed.{leZ}
 use Rattle.laws.specs.If.{if_then_else_}
 use Rattle.point.specs.declared.PointI32.{PointI32}
-use Rattle.radial_dist.specs.Distance.{sqDist}
+use Rattle.reduce.specs.Distance.{sqDist}
 
 abbrev pub samePoint : PointI32 → PointI32 → Bool
 samePoint p q = leZ (p .x) (q .x) && leZ (q .x) (p .x) && (leZ (p .y) (q .y) && leZ (q .y) (p .y))

@@ -1,4 +1,4 @@
--- `radial_dist::same_point` meets its contract: coordinates with the same bits are equal. Assumes nothing.
+-- `reduce::same_point` meets its contract: coordinates with the same bits are equal. Assumes nothing.
 use Prim.Native.Nat.{_<_, _^_}
 use mathlib.Core.Bool.{Bool, true, false, _&&_, false≢true}
 use mathlib.Core.Path.{_≡_, refl, sym, ap}
@@ -13,9 +13,9 @@ use borrow.Author.Tests.{leb-true, eqb-true, eqb-false, ne-eqb}
 use Rattle.laws.specs.Integers.{ofZ-inj, le-leZ}
 use Rattle.laws.specs.Joined.{both-true}
 use Rattle.point.specs.declared.PointI32.{PointI32}
-use Rattle.radial_dist.specs.Radial.{samePoint}
-use Rattle.radial_dist.proofs.radial.same_point.Statement.{statement}
-use Rattle.radial_dist.proofs.radial.same_point.Tie as tie
+use Rattle.reduce.specs.Radial.{samePoint}
+use Rattle.reduce.proofs.radial.same_point.Statement.{statement}
+use Rattle.reduce.proofs.radial.same_point.Tie as tie
 
 antisymmetric : (a b : ℤ) → leZ a b ≡ true → leZ b a ≡ true → a ≡ b
 antisymmetric (pos a) (pos b) h k = ap pos (le-antisymm (leb-true a b h) (leb-true b a k))

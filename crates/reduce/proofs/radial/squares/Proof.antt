@@ -1,4 +1,4 @@
--- `radial_dist::squares` meets its contract: within the limits the sum of the squares fits. Assumes nothing.
+-- `reduce::squares` meets its contract: within the limits the sum of the squares fits. Assumes nothing.
 use Prim.Native.Nat.{_≤_}
 use mir.Facts.{toZ-ofZ}
 use mir.Syntax.{w32}
@@ -6,8 +6,8 @@ use mir.Val.{SFits}
 use lib.IntN.{ℤ, natAbs, _+ℤ_, _*ℤ_}
 use borrow.Author.Needs.{needs}
 use Rattle.laws.specs.Integers.{abs-mul-le, mul-sfits, add-sfits}
-use Rattle.radial_dist.proofs.radial.squares.Statement.{statement}
-use Rattle.radial_dist.proofs.radial.squares.Tie as tie
+use Rattle.reduce.proofs.radial.squares.Statement.{statement}
+use Rattle.reduce.proofs.radial.squares.Tie as tie
 
 square-fits : (d : ℤ) → natAbs d ≤ 32766 → SFits w32 (d *ℤ d)
 square-fits d h = mul-sfits d d h h tt

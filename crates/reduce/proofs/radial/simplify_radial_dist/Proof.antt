@@ -1,4 +1,4 @@
--- `radial_dist::simplify_radial_dist` meets its contract: at each return the tests on the way pick a line of `radialOf`. Assumes nothing.
+-- `reduce::simplify_radial_dist` meets its contract: at each return the tests on the way pick a line of `radialOf`. Assumes nothing.
 use Prim.Native.Nat.{ℕ, _/_, _<_, _≤_}
 use mathlib.Core.Bool.{Bool, true, false}
 use mathlib.Core.List.{List}
@@ -14,10 +14,10 @@ use Rattle.refusals.specs.declared.Refusal.the-variants.{TooMany, BadPoint, Bad
 use Rattle.outline.specs.Points.{count}
 use Rattle.outline.specs.Written.{Handed}
 use Rattle.outline.proofs.Room.{too-short, long-enough, not-bad, list-fits}
-use Rattle.radial_dist.specs.Radial.{radial}
-use Rattle.radial_dist.specs.Calls.{radialOf}
-use Rattle.radial_dist.proofs.radial.simplify_radial_dist.Statement.{statement}
-use Rattle.radial_dist.proofs.radial.simplify_radial_dist.Tie as tie
+use Rattle.reduce.specs.Radial.{radial}
+use Rattle.reduce.specs.Calls.{radialOf}
+use Rattle.reduce.proofs.radial.simplify_radial_dist.Statement.{statement}
+use Rattle.reduce.proofs.radial.simplify_radial_dist.Tie as tie
 
 module _ (list : List ℤ) (tolerance : Float) (out : List ℤ) (many : Bool) (m : many ≡ tooMany (length list)) where
   too-many : many ≡ true → record { answer = Refused TooMany; out = out } ≡ radialOf list tolerance out

@@ -1,4 +1,4 @@
--- `radial_dist::with_last` meets its contract: the end of the radial list is written, if there is one. Assumes nothing.
+-- `reduce::with_last` meets its contract: the end of the radial list is written, if there is one. Assumes nothing.
 use Prim.Native.Nat.{ℕ, _+_, _*_, _<_, _≤_}
 use mathlib.Core.Bool.{Bool, true, false}
 use mathlib.Core.List.{List, [], _∷_}
@@ -11,9 +11,9 @@ use Rattle.point.specs.Points.{flat}
 use Rattle.point.specs.declared.PointI32.{PointI32}
 use Rattle.outline.specs.Written.{onto}
 use Rattle.outline.proofs.Written.{onto-nil, onto-two}
-use Rattle.radial_dist.specs.Radial.{samePoint, radialEnd}
-use Rattle.radial_dist.proofs.radial.with_last.Statement.{statement}
-use Rattle.radial_dist.proofs.radial.with_last.Tie as tie
+use Rattle.reduce.specs.Radial.{samePoint, radialEnd}
+use Rattle.reduce.proofs.radial.with_last.Statement.{statement}
+use Rattle.reduce.proofs.radial.with_last.Tie as tie
 
 module _ (last prev : PointI32) (same : Bool) (says : same ≡ samePoint prev last) (kept : ℕ) (out : List ℤ) where
   module _ (t : same ≡ true) where

@@ -1,4 +1,4 @@
--- `radial_dist::get_sq_dist` meets its contract: the squares of the two differences. Assumes nothing.
+-- `reduce::get_sq_dist` meets its contract: the squares of the two differences. Assumes nothing.
 use Prim.Native.Nat.{_≤_}
 use mathlib.Core.Path.{_≡_}
 use native.Mathlib.Omega.{arith}
@@ -10,9 +10,9 @@ use lib.Ieee.{Float, binary64, ofInt}
 use borrow.Author.Needs.{needs}
 use Rattle.laws.specs.Integers.{sfits-abs}
 use Rattle.point.specs.declared.PointI32.{PointI32}
-use Rattle.radial_dist.specs.Distance.{sqDist}
-use Rattle.radial_dist.proofs.radial.get_sq_dist.Statement.{statement}
-use Rattle.radial_dist.proofs.radial.get_sq_dist.Tie as tie
+use Rattle.reduce.specs.Distance.{sqDist}
+use Rattle.reduce.proofs.radial.get_sq_dist.Statement.{statement}
+use Rattle.reduce.proofs.radial.get_sq_dist.Tie as tie
 
 -- a number within the limits is handed on by its bits
 same : (z : ℤ) → natAbs z ≤ 32766 → toZ w32 (ofZ w32 z) ≡ z

@@ -1,4 +1,4 @@
--- `radial_dist::keep_far` meets its contract. The loop's invariant: what the radial pass keeps of the points from `k` on, after `prev`, completes
+-- `reduce::keep_far` meets its contract. The loop's invariant: what the radial pass keeps of the points from `k` on, after `prev`, completes
 -- what it keeps of all; and `prev` lies within the limits. Assumes nothing.
 use Prim.Native.Nat.{ℕ, _+_, _-_, _*_, _<_, _≤_}
 use mathlib.Core.Bool.{true, false}
@@ -21,11 +21,11 @@ use Rattle.outline.proofs.Flat.{length-points, flat-points, points-at}
 use Rattle.outline.proofs.Written.{begun-with, from-before, passed, taken, rest-fits, completed}
 use Rattle.keeping.specs.Calls.{Points, keptAllOf}
 use Rattle.keeping.proofs.Claims.{all-handed}
-use Rattle.radial_dist.specs.Distance.{sqDist}
-use Rattle.radial_dist.specs.Radial.{radial, radialFrom, radialEnd}
-use Rattle.radial_dist.proofs.Far.{radial-shorter, radial-whole, radial-first, far, near, none-left}
-use Rattle.radial_dist.proofs.radial.keep_far.Statement.{statement}
-use Rattle.radial_dist.proofs.radial.keep_far.Tie as tie
+use Rattle.reduce.specs.Distance.{sqDist}
+use Rattle.reduce.specs.Radial.{radial, radialFrom, radialEnd}
+use Rattle.reduce.proofs.radial.Far.{radial-shorter, radial-whole, radial-first, far, near, none-left}
+use Rattle.reduce.proofs.radial.keep_far.Statement.{statement}
+use Rattle.reduce.proofs.radial.keep_far.Tie as tie
 
 -- what is still to be written
 unfoldable rest : List ℤ → Float → PointI32 → ℕ → List PointI32

@@ -1,12 +1,12 @@
--- `radial_dist::difference` meets its contract: within the limits the difference fits. Assumes nothing.
+-- `reduce::difference` meets its contract: within the limits the difference fits. Assumes nothing.
 use mathlib.Core.Path.{refl}
 use mir.Facts.{toZ-ofZ}
 use mir.Syntax.{w32}
 use mir.Val.{SFits}
 use lib.IntN.{_-ℤ_}
 use Rattle.laws.specs.Integers.{abs-sub-le, sub-sfits}
-use Rattle.radial_dist.proofs.radial.difference.Statement.{statement}
-use Rattle.radial_dist.proofs.radial.difference.Tie as tie
+use Rattle.reduce.proofs.radial.difference.Statement.{statement}
+use Rattle.reduce.proofs.radial.difference.Tie as tie
 
 fits : (c : tie.Start) → SFits w32 (c .args .a -ℤ c .args .b)
 fits c = sub-sfits (c .args .a) (c .args .b) (c .pre .0) (c .pre .1) tt

@@ -1,3 +1,0 @@
--- Laws, leaves first: `Claims` has what callers cite.
-pub mod Far
-pub mod Claims

@@ -1,0 +1,2 @@
+-- Laws of the radial pass.
+pub mod Far
