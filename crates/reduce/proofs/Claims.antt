@@ -1,18 +1,16 @@
 -- What follows of the contracts, for their readers and their callers; of the calls that are passed on it is said in their crates, and passed on
 -- here. Assumes nothing.
 use Prim.Native.Nat.{ℕ, _*_, _≤_}
-use mathlib.Core.Bool.{Bool, true, false, _||_}
+use mathlib.Core.Bool.{Bool, true, false}
 use mathlib.Core.List.{List}
 use mathlib.Core.Option.{Option, some, none}
 use mathlib.Core.Path.{_≡_, refl, sym, ap, ap₂, _∙_}
 use native.Mathlib.Omega.{arith}
-use lib.Dec.{ltb}
 use lib.Ieee.{Float, binary64, ofBits, mul}
 use lib.IntN.{ℤ}
 use lib.ListN.{length}
 use denote.Ref.{now}
-use Rattle.laws.specs.Joined.{both-false}
-use Rattle.point.specs.Limits.{tooMany, badPoints, badTolerance, badSqTolerance, placesFor}
+use Rattle.point.specs.Limits.{tooMany, badPoints, badSqTolerance, placesFor}
 use Rattle.point.specs.Points.{flat, points}
 use Rattle.refusals.specs.Refusals.{countOf}
 use Rattle.refusals.specs.declared.Answer.the-variants.{Refused}
@@ -23,16 +21,15 @@ use Rattle.outline.proofs.Flat.{length-points, count-flat}
 use Rattle.outline.proofs.Room.{places-enough, places-shorter}
 use Rattle.split.specs.Tree.{marksOf}
 use Rattle.keeping.specs.Calls.{shortFor}
-use Rattle.keeping.specs.Kept.{kept}
 use Rattle.keeping.proofs.Claims.{next, places, marks-fit}
 pub use Rattle.douglas_peucker.proofs.Claims.{douglas-peucker-determined, douglas-peucker-unchanged, douglas-peucker-fits}
 pub use Rattle.zooms.proofs.Claims.{numbers-determined, zoom-determined, numbers-unchanged, zoom-unchanged, numbers-fit, zoom-fits}
 use Rattle.reduce.specs.Radial.{radial}
 use Rattle.reduce.specs.Calls.{Points, radialRefusal, radialOutcome, radialOf, Reduced, reduceRefusal, reduceOutcome, reduceOf}
 use Rattle.reduce.proofs.radial.Far.{radial-shorter}
-use Rattle.reduce.proofs.Lines.{inWhole, many-points, answers-whole, answers-narrowed}
+use Rattle.reduce.proofs.Lines.{inWhole, many-points, answers-whole, answers-narrowed, out-room}
 use Rattle.reduce.proofs.radial.simplify_radial_dist.Reads.{Post as Radial}
-use Rattle.reduce.proofs.narrow.reduce.Reads.{Post as Reduce}
+use Rattle.reduce.proofs.both_passes.reduce.Reads.{Post as Reduce}
 
 -- ---- each contract leaves no choice: of equal arguments it allows one answer, and one last content of every buffer. `Post` is the contract
 -- itself, as Rattle reads it off the source, at arguments `a`, a result `r` and parameters at exit `s`.
@@ -116,17 +113,14 @@ reduce-fits list tolerance out scratch marks = by (reduceRefusal list tolerance 
         let short = radial-shorter (mul binary64 (mul binary64 tolerance tolerance) (ofBits binary64 0x3fe0000000000000)) (points list) in
         places-shorter (length ring) (count list) (omega (arith, short, length-points list)) (omega (arith, many-points list tolerance e))
 
-    counted : (t : Bool) → inWhole list tolerance ≡ t → shortFor (count list) out ≡ false → countOf (reduceOutcome none list tolerance out scratch marks .answer) * 2 ≤ length out
-    counted true t e = rw (answers-whole list tolerance out scratch marks t) (places (count list) (count list) out e (places-enough (count list)))
-    counted false t e =
+    counted : (t : Bool) → inWhole list tolerance ≡ t → placesFor (count list) * 2 ≤ length out →
+        countOf (reduceOutcome none list tolerance out scratch marks .answer) * 2 ≤ length out
+    counted true t h = rw (answers-whole list tolerance out scratch marks t) (omega (arith, places-enough (count list)))
+    counted false t h =
         rw (answers-narrowed list tolerance out scratch marks t)
-        (places (count list) (length (kept (marksOf (mul binary64 tolerance tolerance) (flat ring)) (points (flat ring)))) out e
-        (omega (arith, marks-fit (marksOf (mul binary64 tolerance tolerance) (flat ring)) (flat ring), ap placesFor (count-flat ring), fewer t)))
+        (omega (arith, marks-fit (marksOf (mul binary64 tolerance tolerance) (flat ring)) (flat ring), ap placesFor (count-flat ring), fewer t))
 
     by : (o : Option Refusal) → reduceRefusal list tolerance out scratch marks ≡ o → countOf (reduceOutcome o list tolerance out scratch marks .answer) * 2 ≤ length out
     by (some q) e = omega arith
     by none e =
-        let good = next _ (badPoints list) _ (next _ (tooMany (length list)) _ e .1) .1 in
-        let room = next _ (shortFor (count list) out || ltb (length scratch) (count list * 2) || ltb (length marks) (count list)) _ (next _ (badTolerance tolerance) _ good .1) .0 in
-        let two = both-false (shortFor (count list) out || ltb (length scratch) (count list * 2)) (ltb (length marks) (count list)) room .0 in
-        counted (inWhole list tolerance) refl (both-false (shortFor (count list) out) (ltb (length scratch) (count list * 2)) two .0)
+        counted (inWhole list tolerance) refl (out-room list tolerance out scratch marks e)

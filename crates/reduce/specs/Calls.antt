@@ -30,6 +30,7 @@ use Rattle.reduce.specs.Radial.{radial}
 
 -- ---- simplify_radial_dist
 
+-- "The lowest that applies is given"
 abbrev pub radialRefusal : List ℤ → Float → List ℤ → Option Refusal
 radialRefusal list tolerance out =
     refuse TooMany when tooMany (length list) or
@@ -38,6 +39,7 @@ radialRefusal list tolerance out =
     refuse NoRoom when shortFor (count list) out or
     none
 
+-- a refusal changes nothing; else the points that are kept stand at the start of the buffer
 unfoldable pub radialOutcome : Option Refusal → List ℤ → Float → List ℤ → Points
 unfolding radial flat points over
 radialOutcome (some r) list tolerance out = record { answer = Refused r; out = out }
@@ -55,7 +57,7 @@ pub record Reduced : Type 0 where
   pub scratch : List ℤ
   pub marks : List ℕ
 
--- "`reduce` also needs n points of scratch; it and Douglas-Peucker need n mark bytes"
+-- "The lowest that applies is given"; "`reduce` also needs n points of scratch; it and Douglas-Peucker need n mark bytes"
 abbrev pub reduceRefusal : List ℤ → Float → List ℤ → List ℤ → List ℕ → Option Refusal
 reduceRefusal list tolerance out scratch marks =
     refuse TooMany when tooMany (length list) or
@@ -76,6 +78,7 @@ narrowed list tolerance out scratch marks =
     let answer = split ring sq out marks in
     record { answer = answer .answer; out = answer .out; scratch = over ring scratch; marks = answer .marks }
 
+-- a refusal changes nothing, "scratch too"
 unfoldable pub reduceOutcome : Option Refusal → List ℤ → Float → List ℤ → List ℤ → List ℕ → Reduced
 unfolding radial kept marksOf flat points over
 reduceOutcome (some r) list tolerance out scratch marks = record { answer = Refused r; out = out; scratch = scratch; marks = marks }

@@ -5,11 +5,11 @@
 //
 // Lists of points are x, y, x, y, in lent slices; counts are points. Refusals are judged first, and
 // then nothing can fail.
-mod narrow;
+mod both_passes;
 mod radial;
 
+pub use both_passes::reduce;
 pub use douglas_peucker::simplify_douglas_peucker;
-pub use narrow::reduce;
 pub use radial::simplify_radial_dist;
 pub use zooms::numbers;
 pub use zooms::zoom;

@@ -38,7 +38,7 @@ pub fn simplify_radial_dist(points: &[i32], tolerance: f64, out: &mut [i32]) -> 
 }
 
 // Writes what the radial pass keeps, and answers how many points that is.
-fn keep_far(points: &[i32], tolerance: f64, out: &mut [i32]) -> usize
+pub(crate) fn keep_far(points: &[i32], tolerance: f64, out: &mut [i32]) -> usize
     requires { ⌜ (badPoints (now points) ≡ false) × (length (now points) ≤ length (now out)) ⌝ }
     ensures { λ r. ⌜ Handed (radial tolerance (pointsOf (now (points .entry)))) (now (out .entry)) r (now (out .exit)) ⌝ }
 {

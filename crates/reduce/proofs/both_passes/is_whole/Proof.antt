@@ -5,8 +5,8 @@ use mathlib.Core.Path.{_≡_}
 use lib.Dec.{leb}
 use borrow.Author.Needs.{needs}
 use borrow.Author.Tests.{le-leb, lt-leb}
-use Rattle.reduce.proofs.narrow.is_whole.Statement.{statement}
-use Rattle.reduce.proofs.narrow.is_whole.Tie as tie
+use Rattle.reduce.proofs.both_passes.is_whole.Statement.{statement}
+use Rattle.reduce.proofs.both_passes.is_whole.Tie as tie
 
 few : (n : ℕ) (b : Bool) → n ≤ 2 → leb n 2 ≡ (leb n 2 || b)
 few n b h = rw (le-leb _ _ h)
