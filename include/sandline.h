@@ -152,7 +152,7 @@ uint8_t sandline_simplify(const int32_t *points, size_t length, bool clockwise, 
 
 // The radial pass: a point is kept if it lies farther than the tolerance from the last one kept; the first and
 // the last stay. The tolerance is SQUARED, 0 to 4,294,967,296 square pixels.
-// Stack of sandline_simplify_radial_dist: 104 bytes.
+// Stack of sandline_simplify_radial_dist: 88 bytes.
 uint8_t sandline_simplify_radial_dist(const int32_t *points, size_t length, double tolerance, int32_t *out,
                                       size_t room, size_t *count);
 
@@ -167,7 +167,7 @@ uint8_t sandline_simplify_douglas_peucker(const int32_t *points, size_t length, 
 // Up to two points, and any list at tolerance 0, are answered whole; else scratch starts with the list that
 // the radial pass left, and marks with one byte for each point of that.
 // Room: 2n elements of scratch and n marks too.
-// Stack of sandline_reduce: 360 bytes, and 144 for each further level, n - 2 of them at most.
+// Stack of sandline_reduce: 328 bytes, and 144 for each further level, n - 2 of them at most.
 uint8_t sandline_reduce(const int32_t *points, size_t length, double tolerance, int32_t *out, size_t room,
                         int32_t *scratch, size_t scratch_room, uint8_t *marks, size_t mark_room, size_t *count);
 
