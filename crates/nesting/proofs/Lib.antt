@@ -1,4 +1,5 @@
--- `Nesting` has the theorems, and the others what only they need.
+-- `OneNumber` has what one number per point decides, said of the calls: read it first. `Nesting` has the theorems over the definitions, from which it
+-- follows. The others have what only they need.
 pub mod Tolerances
 pub mod Farthest
 pub mod Kept
@@ -6,3 +7,5 @@ pub mod Frames
 pub mod Ends
 pub mod Neighbours
 pub mod Nesting
+pub mod Positions
+pub mod OneNumber

@@ -11,7 +11,7 @@ use native.Mathlib.Omega.{arith}
 use lib.Dec.{ltb, lit≤}
 use lib.IntN.{ℤ, pos, natAbs}
 use lib.Ieee.{Float, nan, inf, fin, isNan, lt, le}
-use lib.ListN.{length, getD, List·getD-map}
+use lib.ListN.{length, getD, List·getD-map, List·getD-eq-default}
 use borrow.Author.Tests.{ltb-true, ltb-false, eq-eqb, ne-eqb, le-ltb, not-true, not-false}
 use Rattle.laws.specs.Compare.{le-is}
 use Rattle.laws.specs.Finite.{Below, NonNeg, below-number, nonneg-number, infinity-nonneg}
@@ -27,7 +27,7 @@ use Rattle.split.proofs.Frames.{framed-many, framed-one}
 use Rattle.nesting.proofs.Tolerances.{lower-keeps}
 use Rattle.split.proofs.Trees.{Each, each-map, split-inside}
 use Rattle.nesting.proofs.Farthest.{SmallSpan, at-least, split-greatest, split-earliest, span-distances}
-use Rattle.split.proofs.Claims.{a-number-for-each-point}
+use Rattle.split.proofs.Claims.{a-mark-for-each-point, a-number-for-each-point}
 use Rattle.keeping.specs.Calls.{shortFor}
 use Rattle.keeping.specs.Kept.{marksBy, mark}
 use Rattle.reduce.specs.Calls.{douglasPeuckerOf, zoomOf}
@@ -69,7 +69,7 @@ not-below-nan nan = refl
 not-below-nan (inf s) = refl
 not-below-nan (fin s m e) = refl
 
-is-kept : (b : Bool) → mark b ≡ 1 → b ≡ true
+pub is-kept : (b : Bool) → mark b ≡ 1 → b ≡ true
 is-kept true e = refl
 is-kept false e = let z : _≡_ {A = ℕ} 0 1 = e in absurd (omega arith)
 
@@ -81,16 +81,29 @@ marks-are-0-or-1 points t k = all-at Bit (framed points 1 (cut t (tree points)))
 infinity : AtLeastZero (inf false)
 infinity = at-least-zero infinity-nonneg
 
--- two kept neighbours of a dropped position: none between them is kept, and near their segment it lies
-pub record Near (points : List ℤ) (t : Float) (k : ℕ) : Type 0 where
+-- two kept neighbours of a dropped position, by marks that are 1 for each kept and 0 for each dropped one: none between them is kept, and near their
+-- segment it lies
+pub record Near (points : List ℤ) (t : Float) (marks : List ℕ) (k : ℕ) : Type 0 where
   pub before : ℕ
   pub after : ℕ
   pub comes-before : before < k
   pub comes-after : k < after
-  pub before-kept : getD (marksOf t points) before 0 ≡ 1
-  pub after-kept : getD (marksOf t points) after 0 ≡ 1
-  pub none-kept-between : (j : ℕ) → before < j → j < after → getD (marksOf t points) j 0 ≡ 0
+  pub is-a-point : after < count points
+  pub before-kept : getD marks before 0 ≡ 1
+  pub after-kept : getD marks after 0 ≡ 1
+  pub none-kept-between : (j : ℕ) → before < j → j < after → getD marks j 0 ≡ 0
   pub within-tolerance : lt t (sqSegDist (pointAt points k) (pointAt points before) (pointAt points after)) ≡ false
+
+-- past the last point no mark is 1
+kept-is-a-point : (points : List ℤ) (t : Float) (j : ℕ) → 0 < count points → getD (marksOf t points) j 0 ≡ 1 → j < count points
+kept-is-a-point points t j some e = go (ltb j (count points)) refl
+  where
+    go : (b : Bool) → ltb j (count points) ≡ b → j < count points
+    go true h = ltb-true j (count points) h
+    go false h =
+        let past : length (marksOf t points) ≤ j = omega (arith, ltb-false j (count points) h, a-mark-for-each-point points t some) in
+        let z : _≡_ {A = ℕ} 0 1 = sym (List·getD-eq-default (marksOf t points) 0 past) ∙ e in
+        absurd (omega arith)
 
 module _ (points : List ℤ) (i32 : InI32 points) where
   small-span : (f l : ℕ) → SmallSpan points f l
@@ -156,21 +169,23 @@ module _ (points : List ℤ) (i32 : InI32 points) where
 
   -- of any tolerance at all: a NaN is below nothing, so all lies within it, and within a negative one lies nothing, so nothing is dropped
 
-  pub dropped-points-are-near : (t : Float) (k : ℕ) → k < count points → getD (marksOf t points) k 0 ≡ 0 → Near points t k
+  pub dropped-points-are-near : (t : Float) (k : ℕ) → k < count points → getD (marksOf t points) k 0 ≡ 0 → Near points t (marksOf t points) k
   dropped-points-are-near t k h e = go (ltb 1 (count points)) refl
     where
-      go : (b : Bool) → ltb 1 (count points) ≡ b → Near points t k
+      go : (b : Bool) → ltb 1 (count points) ≡ b → Near points t (marksOf t points) k
       go true c =
           let o : 1 < count points = ltb-true 1 (count points) c in
           let w : marksOf t points ≡ whole points t (spanTree points 0 (count points - 1)) = many o in
           let b = span-between points t 0 (count points - 1) .1 (small-span 0 (count points - 1)) (omega arith) k (omega arith) (subst (λ (m : List ℕ). getD m k 0 ≡ 0) w e) in
+          let high-one : getD (marksOf t points) (b .high) 0 ≡ 1 = ap (λ (m : List ℕ). getD m (b .high) 0) w ∙ b .high-kept in
           record {
             before = b .low;
             after = b .high;
             comes-before = b .low-first;
             comes-after = b .high-after;
+            is-a-point = kept-is-a-point points t (b .high) (omega arith) high-one;
             before-kept = ap (λ (m : List ℕ). getD m (b .low) 0) w ∙ b .low-kept;
-            after-kept = ap (λ (m : List ℕ). getD m (b .high) 0) w ∙ b .high-kept;
+            after-kept = high-one;
             none-kept-between = λ j p q. ap (λ (m : List ℕ). getD m j 0) w ∙ b .none-between j p q;
             within-tolerance = rw (zero-add (b .low), zero-add (b .high), zero-add k) at (b .near);
           }
@@ -201,9 +216,9 @@ module _ (points : List ℤ) (good : badPoints points ≡ false) where
 
   -- a dropped point lies at most as far as the tolerance from the segment between its kept neighbours
   pub dropped-points-are-near-in-range : (t : Float) → badSqTolerance t ≡ false → (k : ℕ) → k < count points → getD (marksOf t points) k 0 ≡ 0
-      → (n : Near points t k) × (le (sqSegDist (pointAt points k) (pointAt points (n .before)) (pointAt points (n .after))) t ≡ true)
+      → (n : Near points t (marksOf t points) k) × (le (sqSegDist (pointAt points k) (pointAt points (n .before)) (pointAt points (n .after))) t ≡ true)
   dropped-points-are-near-in-range t g k h e =
-      let n : Near points t k = dropped-points-are-near points (in-i32 points good) t k h e in
+      let n : Near points t (marksOf t points) k = dropped-points-are-near points (in-i32 points good) t k h e in
       let d : Float = sqSegDist (pointAt points k) (pointAt points (n .before)) (pointAt points (n .after)) in
       (n, le-is d t (nonneg-number (distances-are-finite points (in-i32 points good) (n .before) (n .after) k .1)) (no-nan t g) ∙ ap not (n .within-tolerance))
 
