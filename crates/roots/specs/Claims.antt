@@ -1,13 +1,18 @@
 -- What follows of the definition of the root, for its readers and for callers. Its words are those of `Root` and `Nearest`. Assumes nothing.
-use Prim.Native.Nat.{ℕ, zero, suc, _*_, _^_, _≤_, _<_}
-use mathlib.Core.Bool.{true, false}
-use mathlib.Core.Path.{_≡_, refl, ap, _∙_}
-use native.Mathlib.Nat.{le-of-lt, zero-lt-suc, mul-right-comm}
+use Prim.Native.Nat.{ℕ, zero, suc, _+_, _-_, _*_, _/_, _%_, _^_, _≤_, _<_}
+use mathlib.Core.Bool.{Bool, true, false, true≢false}
+use mathlib.Core.Path.{_≡_, refl, sym, ap, subst₂, _∙_}
+use native.Mathlib.Nat.{le-of-lt, zero-lt-suc, mul-pos, mul-right-comm}
+use native.Mathlib.Omega.{arith}
 use lib.IntN.{ℤ}
-use lib.Dec.{T, lt→ltb}
-use lib.Ieee.{Float, nan, inf, fin, Format, low, fits}
-use lib.Ieee.Positive.{num, den, positive}
+use lib.Dec.{T, ltb, lt→ltb}
+use lib.Ieee.{Float, nan, inf, fin, Format, binary64, low, fits, isNan, ofBits, toBits}
+use lib.Ieee.Bits.{ofBits-fits, ofBits-toBits, nanBits-is, nanBits-above}
+use lib.Ieee.Positive.{num, den, positive, positive-of-value}
+use lib.Pow.{pow-pos}
+use borrow.Author.Tests.{ltb-true, ltb-false, lt-ltb}
 use Rattle.roots.specs.Nearest.{inUnits, Farther, NotNearer}
+use Rattle.roots.specs.Patterns.{reads-subnormal, reads-normal, no-root-of-negative}
 use Rattle.roots.specs.Root.{wholeRoot, inSquares, rootOf}
 use Rattle.roots.specs.RootFits as RootFits
 use Rattle.roots.specs.RootUnits.{farther-from-root, root-above-zero, square-root}
@@ -74,3 +79,71 @@ root-not-negative f (suc m) e h =
     form (inf s) p = absurd p
     form (fin true m e) p = absurd p
     form (fin false m e) p = (m, e, refl)
+
+-- ---- the 2^64 patterns that `sqrt_bits` takes
+
+-- The answer to a pattern: the pattern of the root of the double that it stands for.
+abbrev pub rootBits : ℕ → ℕ
+rootBits p = toBits binary64 (rootOf binary64 (ofBits binary64 p))
+
+-- The size of the double that a pattern stands for, in units of the smallest double, 2^-1074; it is taken as 0 for an infinity and a NaN.
+abbrev pub sizeOf : ℕ → ℕ
+sizeOf p = inUnits binary64 (ofBits binary64 p)
+
+-- The double that the answer stands for is the root.
+pub answers-the-root : (p : ℕ) → ofBits binary64 (rootBits p) ≡ rootOf binary64 (ofBits binary64 p)
+answers-the-root p = ofBits-toBits binary64 (rootOf binary64 (ofBits binary64 p)) (root-fits binary64 (ofBits binary64 p) (ofBits-fits binary64 p))
+
+-- The patterns between 0 and that of +infinity stand for doubles that are finite and above zero.
+pub above-zero : (p : ℕ) → 0 < p → p < 0x7ff0000000000000 → T (positive (ofBits binary64 p))
+above-zero p some finite = by-field (ltb p (2 ^ 52)) (ltb-true _ _) (ltb-false _ _)
+  where
+    by-field : (b : Bool) → (b ≡ true → p < 2 ^ 52) → (b ≡ false → 2 ^ 52 ≤ p) → T (positive (ofBits binary64 p))
+    by-field true less more = positive-of-value (ofBits binary64 p) p (2 ^ 1074) (reads-subnormal binary64 p (less refl)) some
+    by-field false less more =
+        let l : 2 ^ 52 ≤ p = more refl in
+        let x = p / 2 ^ 52 - 1 in
+        positive-of-value (ofBits binary64 p) ((2 ^ 52 + p % 2 ^ 52) * 2 ^ x) (2 ^ 1074) (reads-normal binary64 p x (omega arith) (omega arith) (omega arith))
+        (mul-pos (omega arith) (pow-pos x))
+
+-- Let p be a pattern below that of +infinity, so that its double is finite and not negative, and q any pattern. In units of 2^-1074 the exact root of
+-- p's double is the root of sizeOf p * 2 ^ 1074. The answer's double is nearer to it than q's, unless the two are of one size. (A negative
+-- double lies farther from the root than its size does, so this holds of it all the more.)
+pub other-patterns-farther : (p q : ℕ) → p < 0x7ff0000000000000 → Farther (sizeOf p * 2 ^ 1074) (sizeOf (rootBits p)) (sizeOf q)
+unfolding toBits rootOf ofBits
+other-patterns-farther zero q h = (λ l. absurd (omega arith), λ l. omega (arith, mul-pos l l))
+other-patterns-farther (suc k) q h =
+    subst₂ (λ (n r : ℕ). Farther n r (sizeOf q)) (squares-are binary64 x (ofBits-fits binary64 (suc k))) (ap (inUnits binary64) (sym (answers-the-root (suc k))))
+    (farther-from-root binary64 x (above-zero (suc k) (zero-lt-suc k) h) (ofBits-fits binary64 (suc k)) (ofBits binary64 q) (ofBits-fits binary64 q))
+  where
+    x : Float
+    x = ofBits binary64 (suc k)
+
+-- So the double of no pattern q is nearer to the exact root than that of the answer.
+pub no-pattern-nearer : (p q : ℕ) → p < 0x7ff0000000000000 → NotNearer (sizeOf p * 2 ^ 1074) (sizeOf (rootBits p)) (sizeOf q)
+no-pattern-nearer p q h = let farther = other-patterns-farther p q h in (λ l. le-of-lt (farther .0 l), λ l. le-of-lt (farther .1 l))
+
+-- All other patterns: "-0 gives -0, +infinity itself, NaN or below zero the NaN 7ff8000000000000".
+pub root-of-minus-zero : rootBits 0x8000000000000000 ≡ 0x8000000000000000
+unfolding toBits rootOf ofBits
+root-of-minus-zero = refl
+
+pub root-of-infinity : rootBits 0x7ff0000000000000 ≡ 0x7ff0000000000000
+unfolding toBits rootOf ofBits
+root-of-infinity = refl
+
+root-of-nan : (x : Float) → isNan x ≡ true → rootOf binary64 x ≡ nan
+unfolding rootOf isNan
+root-of-nan nan e = refl
+root-of-nan (inf s) e = absurd (true≢false (sym e))
+root-of-nan (fin s m i) e = absurd (true≢false (sym e))
+
+pub root-of-no-number : (p : ℕ) → p < 2 ^ 64 → 0x7ff0000000000000 < p → (p ≡ 0x8000000000000000 → ⊥) → rootBits p ≡ 0x7ff8000000000000
+unfolding toBits
+root-of-no-number p fits above other = ap (toBits binary64) (by-sign (ltb p (2 ^ 63)) (ltb-true _ _) (ltb-false _ _))
+  where
+    by-sign : (b : Bool) → (b ≡ true → p < 2 ^ 63) → (b ≡ false → 2 ^ 63 ≤ p) → rootOf binary64 (ofBits binary64 p) ≡ nan
+    by-sign true less more =
+        let l : p < 2 ^ 63 = less refl in
+        root-of-nan (ofBits binary64 p) (sym (nanBits-is binary64 p) ∙ nanBits-above binary64 p ∙ lt-ltb 0x7ff0000000000000 (p % 2 ^ 63) (omega arith))
+    by-sign false less more = let l : 2 ^ 63 ≤ p = more refl in no-root-of-negative binary64 p l (λ x t. other (omega arith))

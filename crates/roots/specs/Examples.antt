@@ -31,15 +31,6 @@ root-of-largest : rootBits 0x7fefffffffffffff ≡ 0x5fefffffffffffff
 unfolding rootBits
 root-of-largest = refl
 
--- -0 and +infinity are their own roots
-root-of-minus-0 : rootBits 0x8000000000000000 ≡ 0x8000000000000000
-unfolding rootBits
-root-of-minus-0 = refl
-
-root-of-infinity : rootBits 0x7ff0000000000000 ≡ 0x7ff0000000000000
-unfolding rootBits
-root-of-infinity = refl
-
 -- -1, -infinity and a NaN with a payload have no root but the NaN
 root-of-minus-1 : rootBits 0xbff0000000000000 ≡ 0x7ff8000000000000
 unfolding rootBits

@@ -5,19 +5,15 @@ use mathlib.Core.Path.{_≡_, refl, sym, ap, _∙_}
 use native.Mathlib.Nat.{mul-assoc, mul-pos}
 use native.Mathlib.Omega.{arith}
 use lib.Dec.{ltb}
-use lib.Ieee.{binary64, nan, toBits, ofBits}
+use lib.Ieee.{binary64, toBits, ofBits}
 use lib.Pow.{pow-add, pow-pos}
 use borrow.Author.Needs.{needs}
 use borrow.Author.Tests.{ltb-true, ltb-false}
 use Rattle.sqrt.specs.Root.{nearestRoot, rootOf}
-use Rattle.bits.proofs.Claims.{reads-nan}
-use Rattle.roots.specs.Patterns.{root-of-units, reads-subnormal, reads-normal, no-root-of-negative}
+use Rattle.roots.specs.Claims.{rootBits, root-of-no-number}
+use Rattle.roots.specs.Patterns.{root-of-units, reads-subnormal, reads-normal}
 use Rattle.sqrt.proofs.root.sqrt_bits.Statement.{statement}
 use Rattle.sqrt.proofs.root.sqrt_bits.Tie as tie
-
--- the pattern of the root of what the pattern b stands for
-abbrev rootBits : ℕ → ℕ
-rootBits b = toBits binary64 (rootOf binary64 (ofBits binary64 b))
 
 module _ (b : ℕ) where
   -- b is 0 or 2 ^ 63
@@ -34,17 +30,8 @@ module _ (b : ℕ) where
   infinity-itself e = rw e
 
   -- above +infinity there are NaNs, and then all that has the sign set
-  no-root : b < 2 ^ 64 → (b % 2 ^ 63 ≡ 0 → ⊥) → 0x7ff0000000000000 < b → rootOf binary64 (ofBits binary64 b) ≡ nan
-  unfolding rootOf
-  no-root w z i = by-sign (ltb b (2 ^ 63)) (ltb-true _ _) (ltb-false _ _)
-    where
-      by-sign : (s : Bool) → (s ≡ true → b < 2 ^ 63) → (s ≡ false → 2 ^ 63 ≤ b) → rootOf binary64 (ofBits binary64 b) ≡ nan
-      by-sign true less more = let l : b < 2 ^ 63 = less refl in ap (rootOf binary64) (reads-nan binary64 b (omega arith))
-      by-sign false less more = no-root-of-negative binary64 b (more refl) (λ x t. z (omega arith))
-
   nan-bits : b < 2 ^ 64 → (b % 2 ^ 63 ≡ 0 → ⊥) → 0x7ff0000000000000 < b → 0x7ff8000000000000 ≡ rootBits b
-  unfolding toBits
-  nan-bits w z i = rw (no-root w z i)
+  nan-bits w z i = sym (root-of-no-number b w i (λ e. z (omega arith)))
 
   -- a positive number, from its units: b itself, or its digits with the leading one, as often doubled as its field says
   subnormal : (r : ℕ) → r ≡ toBits binary64 (nearestRoot binary64 (b % 2 ^ 52 * 2 ^ 1074)) → (b % 2 ^ 63 ≡ 0 → ⊥) → b / 2 ^ 52 ≡ 0 → r ≡ rootBits b
