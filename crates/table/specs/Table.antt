@@ -1,13 +1,14 @@
 -- Document 01, "Both sides of each edge": P1 to P12, one theorem over the definitions. Each line quotes document 01 and stands for the
 -- definition that the call's contract cites, so it says what the call answers and what the buffers lent to it then hold.
-use Prim.Native.Nat.{ℕ, _*_}
+use Prim.Native.Nat.{ℕ, _*_, _≤_}
 use mathlib.Core.Bool.{true, false}
 use mathlib.Core.List.{List, [], _∷_}
 use mathlib.Core.Path.{_≡_, refl}
-use lib.IntN.{ℤ, pos}
+use lib.IntN.{ℤ, pos, natAbs}
 use lib.Ieee.{Float, inf, binary64, ofInt, ofBits, add, sub, mul, div, lt, ne, eq, le}
 use lib.ListN.{replicate}
-use Rattle.point.specs.Limits.{badList}
+use Rattle.laws.specs.Integers.{in-range}
+use Rattle.point.specs.Limits.{badList, inRange}
 use Rattle.point.specs.Points.{flat}
 use Rattle.refusals.specs.declared.Answer.the-variants as Answer
 use Rattle.point.specs.declared.PointI32.{PointI32}
@@ -27,7 +28,11 @@ use Rattle.reduce.specs.Calls.{radialOf, douglasPeuckerOf, reduceOf, numberedOf
 abbrev point : ℕ → ℕ → PointI32
 point x y = record { x = pos x; y = pos y }
 
--- "squared tolerance 25" and "tolerance 3" as the doubles that they are
+-- "coordinates -16,383 to 16,383"
+abbrev Within : PointI32 → Type 0
+Within p = (natAbs (p .x) ≤ 16383) × (natAbs (p .y) ≤ 16383)
+
+-- a tolerance, and a squared one, as the double that it is
 abbrev whole : ℕ → Float
 whole n = ofInt binary64 (pos n)
 
@@ -81,10 +86,11 @@ abbrev pub P4 : Type 0
 unfolding flat
 P4 = penaltiesOf (flat (point 7 7 ∷ [])) (room 2) ≡ record { answer = Answer.Done 2; out = flat (point 7 7 ∷ point 7 7 ∷ []) }
 
--- "P5 of two points: the first only."
+-- "P5 of two points: the first only." Any two, p and q; a and b are what the buffer's two places held
 abbrev pub P5 : Type 0
 unfolding flat
-P5 = penaltiesOf (flat (point 7 7 ∷ point 8 8 ∷ [])) (room 2) ≡ record { answer = Answer.Done 1; out = flat (point 7 7 ∷ old ∷ []) }
+P5 = (p q : PointI32) → Within p → Within q → (a b : PointI32) →
+    penaltiesOf (flat (p ∷ q ∷ [])) (flat (a ∷ b ∷ [])) ≡ record { answer = Answer.Done 1; out = flat (p ∷ b ∷ []) }
 
 -- "P6 of (0,0) (100,0) (0,0): (0,0) (0,0)."
 abbrev pub P6 : Type 0
@@ -131,7 +137,7 @@ P11 = (reduceOf (flat pixelOutline) (whole 3) (room 5) (room 5) (markRoom 5)
 abbrev pub P12 : Type 0
 P12 = spiralPoints 2 ≡ point 0 0 ∷ point 1 0 ∷ point 1 1 ∷ point 0 1 ∷ []
 
--- ---- antt computes each
+-- ---- antt computes each; P5 once its coordinates are known to be in range
 
 p1 : P1
 unfolding flat walked badChart pixelAt
@@ -151,7 +157,10 @@ p4 = refl
 
 p5 : P5
 unfolding flat penaltiesOf badList
-p5 = refl
+p5 p q h k a b = rw (fine (p .x) (h .0), fine (p .y) (h .1), fine (q .x) (k .0), fine (q .y) (k .1))
+  where
+    fine : (v : ℤ) → natAbs v ≤ 16383 → inRange v ≡ true
+    fine v = in-range 16382 16383 refl v
 
 p6 : P6
 unfolding flat penaltiesOf badList penalty ofInt add sub mul div lt le
