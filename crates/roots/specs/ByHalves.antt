@@ -1,4 +1,4 @@
--- The arithmetic of a root found by halves (P. Zimmermann, "Karatsuba square root", 1999). Of a number's leading digits s is the whole root,
+-- The arithmetic of a root found by halves (P. Zimmermann, Karatsuba square root, 1999). Of a number's leading digits s is the whole root,
 -- and r is left; high and low are the two digits that follow, in base b. What is left, with high, is divided by twice s: the quotient is the
 -- root's next digit, or one more than that. Nothing here is about words. Assumes nothing.
 use Prim.Native.Nat.{ℕ, zero, suc, _+_, _-_, _*_, _/_, _%_, _≤_, _<_}
