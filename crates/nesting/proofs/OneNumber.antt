@@ -9,9 +9,9 @@ use mathlib.Core.Bool.{Bool, true, false}
 use mathlib.Core.List.{List, [], _∷_, _++_, map, map-map, append-nil, append-assoc}
 use mathlib.Core.Path.{_≡_, refl, sym, ap, ap₂, subst, subst₂, _∙_}
 use native.Mathlib.Omega.{arith}
-use lib.IntN.{ℤ}
-use lib.Ieee.{Float, nan, inf, lt, le}
-use lib.ListN.{length, getD, take, drop, length-map, length-append}
+use lib.IntN.{ℤ, pos}
+use lib.Ieee.{Float, nan, inf, binary64, ofInt, lt, le}
+use lib.ListN.{length, getD, take, drop, replicate, length-map, length-append}
 use lib.Seq.{getD-at}
 use borrow.Author.Tests.{ne-eqb, le-ltb}
 use Rattle.laws.specs.If.{if_then_else_}
@@ -44,6 +44,15 @@ above tolerance numbers k = lt tolerance (getD numbers k nan)
 -- the positions of a list of points, in order, whose numbers are greater than the tolerance
 abbrev pub keptPositions : List ℤ → List Float → Float → List ℕ
 keptPositions list numbers tolerance = those (above tolerance numbers) (positions 0 (count list))
+
+-- P9 and P10: of four points with the numbers infinity, 16, 16, infinity, the ends only at 16, and all at 15
+kept-at-16 : keptPositions (replicate 8 (pos 0)) (inf false ∷ ofInt binary64 (pos 16) ∷ ofInt binary64 (pos 16) ∷ inf false ∷ []) (ofInt binary64 (pos 16)) ≡ 0 ∷ 3 ∷ []
+unfolding ofInt lt
+kept-at-16 = refl
+
+kept-at-15 : keptPositions (replicate 8 (pos 0)) (inf false ∷ ofInt binary64 (pos 16) ∷ ofInt binary64 (pos 16) ∷ inf false ∷ []) (ofInt binary64 (pos 15)) ≡ 0 ∷ 1 ∷ 2 ∷ 3 ∷ []
+unfolding ofInt lt
+kept-at-15 = refl
 
 -- room for the points and for the marks of a list
 abbrev pub Room : List ℤ → List ℤ → List ℕ → Type 0
