@@ -10,7 +10,7 @@ use Rattle.corners.specs.Corners.{cornersOf}
 abbrev right-angle : Pair
 right-angle = record { c = pos 0; s = pos 1 }
 
--- "(c, s) is proportional to the threshold's cosine and sine": so (1, 1) stands for 45 degrees
+-- "The pair is proportional to the threshold's cosine and sine": so (1, 1) stands for 45 degrees
 abbrev half-right : Pair
 half-right = record { c = pos 1; s = pos 1 }
 

@@ -1,4 +1,4 @@
--- What the call answers: "as public calls they refuse (BadPoint) a coordinate out of range, NaN or infinite".
+-- What the call answers. It refuses (BadPoint) "a coordinate out of range, NaN or infinite".
 use mathlib.Core.Bool.{not, _&&_}
 use mathlib.Core.Option.{Option, some, none}
 use Rattle.refusals.specs.Refusals.{refuse_when_or_}

@@ -1,4 +1,4 @@
--- What each call answers: "as public calls they refuse (BadPoint) a coordinate out of range, NaN or infinite".
+-- What each call answers. They refuse (BadPoint) "a coordinate out of range, NaN or infinite".
 use mathlib.Core.Bool.{Bool, not, _&&_}
 use mathlib.Core.Option.{Option, some, none}
 use Rattle.point.specs.Limits.{inRange, inRangeF64}

@@ -47,7 +47,7 @@ unfoldable pub pastDelta : List PointI32 → ℕ → ℕ → Float
 unfolding greatest penalty
 pastDelta ps from to = greatest (λ k. penalty (at ps from) (at ps k) (at ps to)) (to - suc from) (suc from) (ofInt binary64 (pos 0))
 
--- "past_delta(last, i) >= tolerance": the tolerance is 1
+-- the Rust's `past_delta(last, i) >= tolerance`: the tolerance is 1
 unfoldable pub tooCostly : List PointI32 → ℕ → ℕ → Bool
 unfolding pastDelta
 tooCostly ps from to = le (ofInt binary64 (pos 1)) (pastDelta ps from to)

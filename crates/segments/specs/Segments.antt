@@ -62,7 +62,7 @@ entering list corners settings closed m i j =
     (placeAt list (prevKept corners closed m i)) (placeAt list (nextKept corners closed m j)) (settings .ratio)
     )
 
--- "If any of the new segments is still bigger than the length threshold, further iterations will be needed"
+-- whether a segment asks for no further round: no point entered it, or neither of its two parts is longer than the segment length
 unfoldable pub settled : List Float → Settings → ℕ → ℕ → Option PointF64 → Bool
 unfolding distance
 settled list settings i j none = true

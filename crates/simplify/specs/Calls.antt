@@ -12,7 +12,7 @@ pub use Rattle.passes.specs.Outcomes.{Outcome}
 unfoldable pub use Rattle.staircase.specs.Staircase.{staircaseOf}
 unfoldable pub use Rattle.penalties.specs.Penalties.{penaltiesOf}
 
--- "one after the other"
+-- the two passes one after the other, staircases first (paths.rs, simplify)
 unfoldable pub simplifyOf : List ℤ → Bool → List ℤ → Outcome
 unfolding outcome limitPenalties removeStaircase points
 simplifyOf list clockwise out = outcome (refusal list (length out)) (limitPenalties (removeStaircase clockwise (points list))) out

@@ -16,7 +16,7 @@ one64 = ofBits binary64 0x3ff0000000000000
 abbrev pub placeOf : PointI32 → PointF64
 placeOf p = record { x = ofInt binary64 (p .x); y = ofInt binary64 (p .y) }
 
--- "dx * dx + dy * dy"
+-- the Rust's `dx * dx + dy * dy`
 abbrev pub squares : Float → Float → Float
 squares dx dy = add binary64 (mul binary64 dx dx) (mul binary64 dy dy)
 
@@ -41,7 +41,7 @@ nearest s t =
     if lt zero64 t then record { x = add binary64 (s .x) (mul binary64 (s .dx) t); y = add binary64 (s .y) (mul binary64 (s .dy) t) } else
     record { x = s .x; y = s .y }
 
--- "dx != 0.0 || dy != 0.0"
+-- the Rust's `dx != 0.0 || dy != 0.0`: the two ends differ
 abbrev pub hasLength : Segment → Bool
 hasLength s = ne (s .dx) zero64 || ne (s .dy) zero64
 

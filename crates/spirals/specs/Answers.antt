@@ -1,4 +1,4 @@
--- Document 01's number and values of each answer. "A refusal hands out nothing": it has no values.
+-- Document 01's number and values of each answer. A refusal has no values.
 use Prim.Native.Nat.{ℕ}
 use mathlib.Core.List.{List, [], _∷_}
 use lib.IntN.{ℤ}

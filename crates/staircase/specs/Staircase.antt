@@ -16,7 +16,7 @@ use Rattle.passes.specs.Outcomes.{Outcome, refusal, outcome}
 abbrev pub segmentLength : PointI32 → PointI32 → ℕ
 segmentLength p q = natAbs (p .x -ℤ q .x) + natAbs (p .y -ℤ q .y)
 
--- "area != 0 && (area > 0) == clockwise"
+-- three points with this signed area turn, and turn the way that the outline goes round: the Rust's `area != 0 && (area > 0) == clockwise`
 abbrev pub outwards : Bool → ℤ → Bool
 outwards clockwise area = not (eqb (natAbs area) 0) && Bool·beq (ltZ (pos 0) area) clockwise
 

@@ -46,7 +46,7 @@ numberedOf list out = numbersOutcome (numbersRefusal list out) list out
 
 -- ---- zoom
 
--- "a list of numbers that has not one for each point is BadPoint"
+-- a list of numbers that has not one for each point is BadPoint
 abbrev pub zoomRefusal : List ℤ → List Float → Float → List ℤ → Option Refusal
 zoomRefusal list numbers tolerance out =
     refuse TooMany when tooMany (length list) or

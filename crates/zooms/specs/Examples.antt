@@ -28,12 +28,12 @@ one-zoomed : zoomOf (pos 7 ∷ pos 8 ∷ []) (inf false ∷ []) (ofInt binary64 
 unfolding zoomOf badList ofInt le
 one-zoomed = refl
 
--- "a list of numbers that has not one for each point is BadPoint"
+-- a list of numbers that has not one for each point is BadPoint
 no-number : zoomOf (pos 7 ∷ pos 8 ∷ []) [] (ofInt binary64 (pos 0)) (pos 9 ∷ pos 9 ∷ pos 9 ∷ pos 9 ∷ []) ≡ record { answer = Refused BadPoint; out = pos 9 ∷ pos 9 ∷ pos 9 ∷ pos 9 ∷ [] }
 unfolding zoomOf badList
 no-number = refl
 
--- its number is +infinity; "2 places where n is 1"
+-- one point has the number +infinity, and needs two places: "n places, 2 where n is 1"
 one-numbered : numberedOf (pos 7 ∷ pos 8 ∷ []) (nan ∷ nan ∷ []) ≡ record { answer = Done 1; out = inf false ∷ nan ∷ [] }
 unfolding numberedOf badList
 one-numbered = refl
