@@ -1,8 +1,7 @@
 // A double and its 64 bits. The language leaves both ways open at a NaN; here a NaN has one pattern
 // of its own, and every NaN pattern is read as the one NaN.
 //
-// Nothing here fails, for any of the 2^64 patterns or any f64. In the programs and the archive (x86-64 code at
-// -O3) each call is worked into its caller, and takes no stack of its own.
+// Nothing here fails, for any of the 2^64 patterns or any f64.
 ghost use mathlib.Core.Path.{_≡_};
 ghost use lib.Ieee.{binary64, toBits, ofBits};
 

@@ -2,8 +2,6 @@
 // list of none is `-`.
 //
 // Each call answers the place behind what it put; nothing fails, and what does not fit is not written.
-// The deepest calls, of `put_integers` and `put_doubles`, take 56 bytes of stack with the return address
-// (measured on the x86-64 code).
 mod bytes;
 mod doubles;
 mod integers;

@@ -2,7 +2,6 @@
 // which takes the place of the last space.
 //
 // Each call answers the place behind what it put; nothing fails, and what does not fit is not written.
-// No call takes more than 16 bytes of stack with its return address (measured on the x86-64 code).
 mod line;
 mod values;
 

@@ -1,7 +1,6 @@
 // The corners of an outline, in whole numbers: exact, unlike the Rust's find_corners, which compares angles.
 //
-// Lists of points are x, y, x, y; flags are bytes, 1 for a corner and 0 for none. The call takes 80 bytes
-// of stack with its return address (measured on the x86-64 code).
+// Lists of points are x, y, x, y; flags are bytes, 1 for a corner and 0 for none.
 mod flags;
 mod turns;
 

@@ -1,7 +1,7 @@
 // The crossing of two lines.
 //
-// The call refuses a coordinate out of range, and takes no more stack than its return address, 8 bytes
-// (measured on the x86-64 code). What a crossing is, and what it says of its lines, stands in `ratios`.
+// The call refuses a coordinate out of range. What a crossing is, and what it says of its lines, stands in
+// `ratios`.
 mod two_lines;
 
 pub use ratios::Intersection;

@@ -1,7 +1,6 @@
 // Decimal numbers, read from a word.
 //
-// Nothing fails: what is no number is answered `Not`. What writes numbers stands in `texts`. The deepest
-// call, of `read_integer`, takes 16 bytes of stack with its return address (measured on the x86-64 code).
+// Nothing fails: what is no number is answered `Not`. What writes numbers stands in `texts`.
 mod integer;
 mod natural;
 

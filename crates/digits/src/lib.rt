@@ -1,8 +1,7 @@
 // A hexadecimal digit, and numbers of such digits, read from a word.
 //
 // Nothing fails: what is no number is answered `Not`. Decimals are read in `decimals`; what writes numbers
-// stands in `texts`. No call takes more stack than its return address, 8 bytes (measured on the x86-64
-// code).
+// stands in `texts`.
 mod glyphs;
 mod read;
 

@@ -2,8 +2,7 @@
 // number is above a tolerance.
 //
 // Lists of points are x, y, x, y, in lent slices; counts are points. Refusals are judged first, and
-// then nothing can fail. No call takes any stack but its return address (measured on the x86-64 code at
-// -O3).
+// then nothing can fail.
 mod above;
 mod all;
 mod marked;

@@ -1,7 +1,6 @@
 // The words of a line.
 //
-// Nothing fails, for any line. No call takes more stack than its return address, 8 bytes (measured on
-// the x86-64 code).
+// Nothing fails, for any line.
 mod split;
 
 pub use split::find;

@@ -1,8 +1,6 @@
 // The midpoint of two points, and the length of a vector.
 //
 // The calls refuse a coordinate out of range. `middle` and `length`, on which other crates build, take any.
-// The norms take 40 bytes of stack with their root's, the midpoint its return address, 8 (measured on the
-// x86-64 code of the calls for C).
 mod lengths;
 
 ghost use mathlib.Core.Path.{_≡_};

@@ -2,7 +2,6 @@
 //
 // Both calls are total: a value that is not there is read as 0, and a place that is not there is
 // left out. In a loop that stays below `points.len() / 2` the compiler drops the test of a read.
-// Neither takes any stack but its return address (measured on the x86-64 code).
 ghost use Prim.Native.Nat.{_+_, _*_, _≤_};
 ghost use mathlib.Core.Path.{_≡_};
 ghost use lib.ListN.{set};

@@ -2,8 +2,7 @@
 // lends: all of them, or none.
 //
 // Nothing fails: where a digit is none, or there is no room for all, the answer is `Not`, and nothing
-// is written. The deepest call, of `read_pairs`, takes 88 bytes of stack with its return addresses
-// (measured on the x86-64 code at -O3).
+// is written.
 mod bytes;
 
 pub use bytes::read_bytes;

@@ -2,8 +2,7 @@
 // of the area of its triangle over the side that takes its place.
 //
 // Lists of points are x, y, x, y, in lent slices; counts are points. Refusals are judged first, and
-// then nothing can fail. It takes 232 bytes of stack (measured on the x86-64 code of the call for C, with
-// the return addresses).
+// then nothing can fail.
 mod costs;
 mod triangle;
 

@@ -1,7 +1,6 @@
 // Points, the limits that every call of the library keeps; and, passed on, the refusals and their numbers.
 //
-// Each test here is total and looks at nothing but what it is handed. No call takes more stack than its
-// return address, 8 bytes (measured on the x86-64 code).
+// Each test here is total and looks at nothing but what it is handed.
 mod limits;
 
 pub use limits::bad_points;

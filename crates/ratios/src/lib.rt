@@ -1,6 +1,4 @@
 // Where two lines cross, and what that says of them.
-//
-// No call takes more stack than its return address, 8 bytes (measured on the x86-64 code).
 mod says;
 
 use point::PointF64;

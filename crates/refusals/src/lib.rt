@@ -1,6 +1,4 @@
 // Why a call refuses, what it answers otherwise, and the numbers of both.
-//
-// No call takes more stack than its return address, 8 bytes (measured on the x86-64 code).
 ghost use mathlib.Core.Path.{_≡_};
 ghost use Rattle.refusals.specs.Refusals.{refusalNumber, numberOf, countOf};
 

@@ -1,6 +1,5 @@
 // What a round of subdivision refuses: the lowest refusal that applies to its points, its flags, its
-// settings and the room for what it makes. The call takes no stack but its return address (measured on the
-// x86-64 code).
+// settings and the room for what it makes.
 mod tests;
 
 ghost use Prim.Native.Nat.{_≤_};

@@ -1,7 +1,4 @@
 // What a round of subdivision is, and what it answers, with its number and values.
-//
-// In the programs and the archive (x86-64 code at -O3) each call is worked into its caller, and takes no stack
-// of its own.
 ghost use mathlib.Core.Path.{_≡_};
 ghost use Rattle.rounds.specs.Answers.{subdividedNumber, subdividedCount, subdividedFinished};
 use point::Refusal;

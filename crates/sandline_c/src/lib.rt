@@ -4,8 +4,7 @@
 // number, 0 for done. Counts and values come back through small lent arrays: after a refusal the count is 0,
 // and all else that was lent holds what it held.
 //
-// The deepest call is `sandline_answer`: 119,232 bytes of stack with its return addresses, and 144 for
-// each further level of a split (measured on the x86-64 code at -O3). The header has the figure of every call; tools/stack prints them.
+// What stack each call takes stands in the header, and tools/stack prints it.
 mod crossings;
 mod geometry;
 mod handing;

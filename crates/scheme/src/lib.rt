@@ -3,8 +3,7 @@
 //
 // Each call takes any points. A segment takes 6 square roots at most: its length, and where that is over
 // the segment length those of the segments beside it; where a point enters, how far out it lies, and the
-// length of one new segment or both. In the x86-64 code at -O3 the calls are parts of `segments`, which
-// says what stack they take.
+// length of one new segment or both.
 ghost use mathlib.Core.Path.{_≡_};
 ghost use Rattle.scheme.specs.Scheme.{distance, outset, newPoint, twice, skippedBy, settledBy, placedBy};
 use point::PointF64;

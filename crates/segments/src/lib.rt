@@ -1,8 +1,7 @@
 // What enters behind a point of an outline that is smoothed: a point of the segment that leaves it, or
 // nothing.
 //
-// Lists of points are x, y, x, y; flags are bytes, 1 for a corner. The call takes 184 bytes of stack with
-// its return addresses (measured on the x86-64 code at -O3, where all but `enter` is part of its caller).
+// Lists of points are x, y, x, y; flags are bytes, 1 for a corner.
 mod positions;
 
 ghost use Prim.Native.Nat.{_≤_, _<_};

@@ -2,8 +2,7 @@
 // do without at little cost.
 //
 // Lists of points are x, y, x, y, in lent slices; counts are points. Refusals are judged first, and
-// then nothing can fail. `simplify` takes 32,768 bytes of stack for the list that stands between its two
-// passes, beside its own few and what a pass takes: 136 at most (measured on the x86-64 code).
+// then nothing can fail. The list that stands between the two passes, 8,192 values, lies on the stack.
 ghost use mathlib.Core.Path.{_≡_};
 ghost use Rattle.simplify.specs.Calls.{simplifyOf};
 use passes::Verdict;
@@ -13,7 +12,7 @@ use point::Answer;
 pub use staircase::remove_staircase;
 
 // Puts the points that are left after both passes at the start of `out`. What the first leaves stands
-// in a list of its own, of 32 KiB on the stack.
+// in a list of its own.
 pub fn simplify(points: &[i32], clockwise: bool, out: &mut [i32]) -> Answer
     ensures { λ r. ⌜ record { answer = r; out = now (out .exit) }
         ≡ simplifyOf (now (points .entry)) clockwise (now (out .entry)) ⌝ }

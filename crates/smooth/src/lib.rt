@@ -6,7 +6,7 @@
 // A round of n points takes 6 (n - 1) square roots at most: of each segment its length, and where that is
 // over the segment length those of the segments beside it; where a point enters, how far out it lies, and
 // the length of one new segment or both. The Rust takes one more there, since it works out the distance
-// twice. The call takes 392 bytes of stack with its return addresses (the x86-64 code of the call for C).
+// twice.
 mod round;
 
 pub use corners::Pair;

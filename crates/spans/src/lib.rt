@@ -2,7 +2,7 @@
 // ends.
 //
 // Lists of points are x, y, x, y. Nothing is refused: any coordinates and any positions have their
-// answer. `farthest` takes no stack but its return address (measured on the x86-64 code at -O3).
+// answer.
 mod distance;
 mod span;
 

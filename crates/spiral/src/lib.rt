@@ -2,9 +2,6 @@
 //
 // The state goes by value, and is answered anew with each point; `spiral_advance` moves it on in the
 // caller's own struct.
-//
-// `spiral_advance` takes 336 bytes of stack with its return addresses, `spiral_step` 48, `spiral` 8 (the
-// frames of the x86-64 code at -O3 along the deepest path, added up).
 mod places;
 mod turning;
 

@@ -1,8 +1,7 @@
 // What a spiral is, a walk of a square from its centre outwards; what its calls answer, and laws on its state.
 //
 // The definitions are in specs/, the laws in proofs/. The calls are those of `spiral`: the code here is the
-// numbers of their answers. No call takes more stack than its return address, 8 bytes (measured on the
-// x86-64 code).
+// numbers of their answers.
 mod answers;
 
 use point::PointI32;

@@ -1,8 +1,7 @@
 // One-pixel staircases, as a walk along pixels leaves them, taken out of an outline.
 //
 // Lists of points are x, y, x, y, in lent slices; counts are points. Refusals are judged first, and
-// then nothing can fail. It takes 108 bytes of stack (measured on the x86-64 code, with the return
-// address).
+// then nothing can fail.
 mod steps;
 
 ghost use Prim.Native.Nat.{_≤_};

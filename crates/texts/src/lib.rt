@@ -1,7 +1,6 @@
 // Numbers as text, written to a buffer that the caller lends.
 //
-// Nothing fails: what does not fit is not written. No call takes more stack than its return address, 8
-// bytes (measured on the x86-64 code).
+// Nothing fails: what does not fit is not written.
 mod decimal;
 mod glyphs;
 mod write;

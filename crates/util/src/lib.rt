@@ -1,8 +1,7 @@
 // Signed area, midpoint, norm and the crossing of two lines.
 //
 // The cross product and the area stand here, the midpoint and the norm, which have fractions, in `measures`,
-// and the crossing in `crossing`. The cross product and the area take no stack but their return address
-// (measured on the x86-64 code).
+// and the crossing in `crossing`.
 mod turning;
 
 ghost use mathlib.Core.Path.{_≡_};
