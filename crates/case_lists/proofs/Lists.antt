@@ -67,7 +67,7 @@ module _ {A : Type 0} (text : A → List ℕ) (values : List A) (none : A) (i : 
   unfolding putAll marked
   all-marked end at out out₀ s h inv = some values (marked text values) out₀ at _ s (rw (drop-of-length-le values h) at inv)
 
--- the same of bytes
+-- a byte is put, and then all are
 module _ (values : List ℕ) (i : ℕ) where
   pub next-pair : (whole : Outcome) (end end₁ : ℕ) (out out₁ : List ℕ) → i < length values →
       putAll (paired (drop i values)) (record { next = end; out = out }) ≡ whole →

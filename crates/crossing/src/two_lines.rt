@@ -34,7 +34,7 @@ pub fn find_intersection(p1: PointF64, p2: PointF64, p3: PointF64, p4: PointF64)
     crossing(p1, p2, p3, p4)
 }
 
-// The same of any four points.
+// Where the two lines cross, for any four points.
 fn crossing(p1: PointF64, p2: PointF64, p3: PointF64, p4: PointF64) -> Intersection
     ensures { λ r. ⌜ r ≡ crossing p1 p2 p3 p4 ⌝ }
 {
@@ -44,7 +44,8 @@ fn crossing(p1: PointF64, p2: PointF64, p3: PointF64, p4: PointF64) -> Intersect
     judged(p1, p2, denom, numera, numerb)
 }
 
-// The same from the denominator and both numerators of the ratios.
+// Where they cross, if they do: both ratios have the denominator `denom`, the first line's the numerator
+// `numera`, the second's `numerb`.
 fn judged(p1: PointF64, p2: PointF64, denom: f64, numera: f64, numerb: f64) -> Intersection
     ensures { λ r. ⌜ r ≡ (
         if negligible denom && negligible numera && negligible numerb then Coincide (middle p1 p2) else

@@ -1,4 +1,4 @@
--- The points that marks select, one after the other; and the same by numbers. Assumes nothing.
+-- The points that marks select, and those that numbers select, one after the other. Assumes nothing.
 use Prim.Native.Nat.{ℕ, suc, _+_, _-_, _<_, _≤_}
 use mathlib.Core.Bool.{Bool, true, false}
 use mathlib.Core.List.{List, [], _∷_}

@@ -77,7 +77,7 @@ squares-pos (pos zero) b h = rw (squares (pos 0) b) (omega (arith, mul-pos (abs-
 squares-pos (pos (suc n)) b h = rw (squares (pos (suc n)) b) (omega (arith, mul-pos (zero-lt-suc n) (zero-lt-suc n)))
 squares-pos (negsuc n) b h = rw (squares (negsuc n) b) (omega (arith, mul-pos (zero-lt-suc n) (zero-lt-suc n)))
 
--- ---- the same with bounds: that of the result is worked out from those of the parts
+-- ---- bounds: that of a result is worked out from those of its parts
 
 pub abs-neg-le : (a : ℤ) {m : ℕ} → natAbs a ≤ m → natAbs (negℤ a) ≤ m
 abs-neg-le a h = omega (arith, abs-neg a)

@@ -86,7 +86,7 @@ split-more b (x ∷ xs) l = by-test (eqb x b) l (λ h. split-more b xs h)
     by-test true l h = refl
     by-test false l h = ap (onto x) (h (omega arith))
 
--- the same of what stands from a place on, in the words of `find`
+-- what stands from a place on is one part, or a part and the rest behind the next `b`: in the words of `find`
 module _ (b at end : ℕ) (xs : List ℕ) (found : end ≡ firstFrom b at xs) (inside : at ≤ length xs) where
   pub part-last : end ≡ length xs → split b (drop at xs) ≡ take (end - at) (drop at xs) ∷ []
   part-last e =

@@ -20,7 +20,7 @@ module _ {A : Type 0} where
   abbrev pub itemsOf : (List ℕ → Option A) → ℕ → List ℕ → Option (List A)
   itemsOf f sep w = allOf f (split sep w)
 
-  -- the same, or `-` for none at all
+  -- values with a `sep` between any two, or `-` for none at all
   abbrev pub listOf : (List ℕ → Option A) → ℕ → List ℕ → Option (List A)
   listOf f sep w = if isDash w then some [] else itemsOf f sep w
 

@@ -23,7 +23,7 @@ pub fn find_mid_point(p1: PointF64, p2: PointF64) -> MidPoint
     MidPoint::At(middle(p1, p2))
 }
 
-// The same of any two points.
+// The point halfway between any two points.
 pub fn middle(p1: PointF64, p2: PointF64) -> PointF64
     ensures { λ r. ⌜ r ≡ middle p1 p2 ⌝ }
 {
@@ -49,7 +49,7 @@ pub fn norm(p: PointF64) -> Measure
     Measure::Refused(Refusal::BadPoint)
 }
 
-// The same for a point of whole numbers.
+// How long the vector to a point of whole numbers is.
 pub fn norm_i32(p: PointI32) -> Measure
     ensures { λ r. ⌜ r ≡ normOfI32 p ⌝ }
 {

@@ -21,7 +21,7 @@ pub fn point_at(points: &[i32], k: usize) -> PointI32
     half_point(points, k)
 }
 
-// The same past the last whole point: half a point is left there, or none.
+// What is read past the last whole point: the x of half a point and 0, or (0,0).
 fn half_point(points: &[i32], k: usize) -> PointI32
     requires { ⌜ count (now points) ≤ k ⌝ }
     ensures { λ r. ⌜ r ≡ pointAt (now (points .entry)) k ⌝ }
@@ -49,7 +49,7 @@ pub fn put(p: PointI32, k: usize, out: &mut [i32])
     put_half(p, k, out);
 }
 
-// The same past the last whole place: there is half a place, or none.
+// Writes a point past the last whole place: its x where half a place is left, or nothing.
 fn put_half(p: PointI32, k: usize, out: &mut [i32])
     requires { ⌜ count (now out) ≤ k ⌝ }
     ensures { λ _. ⌜ now (out .exit) ≡ set (now (out .entry)) (k * 2) (p .x) ⌝ }

@@ -45,7 +45,7 @@ fits {A} (some xs) to n =
     (λ t e. let k : n ≡ length xs = cc in omega (arith, leb-true (length xs) (length to) t))
     (λ t e. let z : _≡_ {A = ℕ} 0 1 = cc in absurd (omega arith))
 
--- The same, as a caller has it at hand: of the answer `r` and the buffer's last content.
+-- What is read fits the buffer, as a caller has it at hand: of the answer `r` and the buffer's last content.
 pub read-fits : {A : Type 0} (xs : Option (List A)) (to last : List A) (r : Read) (n : ℕ) →
     record { answer = r; to = last } ≡ readInto xs to → r ≡ Is n → length last ≡ length to → n ≤ length last
 read-fits {A} xs to last r n e is kept = rw kept (fits xs to n (sym (ap (λ (o : Outcome A). o .answer) e) ∙ is))

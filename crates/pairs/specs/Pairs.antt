@@ -19,6 +19,6 @@ bytesOf [] = some []
 bytesOf (x ∷ []) = none
 bytesOf (x ∷ y ∷ rest) = if ltb (pairOf x y) 256 then prepend (some (pairOf x y)) (bytesOf rest) else none
 
--- the same, or `-` for none at all
+-- a byte for any two digits of a word that has some; `-` is the word of no bytes
 abbrev pub pairsOf : List ℕ → Option (List ℕ)
 pairsOf w = if isDash w then some [] else if eqb (length w) 0 then none else bytesOf w

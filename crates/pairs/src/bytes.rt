@@ -23,7 +23,8 @@ pub fn read_bytes(word: &[u8], to: &mut [u8]) -> Read
     Read::Is(n)
 }
 
-// The same, where `-` is the word of no bytes, and an empty one is none.
+// Reads the bytes of a word to the start of `to`, as `read_bytes` does; here the word of no bytes is `-`,
+// and an empty one is refused.
 pub fn read_pairs(word: &[u8], to: &mut [u8]) -> Read
     ensures { λ r. ⌜ record { answer = r; to = now (to .exit) } ≡ readInto (pairsOf (now (word .entry))) (now (to .entry)) ⌝ }
 {

@@ -53,9 +53,10 @@ fn keep_costly(points: &[i32], out: &mut [i32]) -> usize
     2
 }
 
-// The same of more than two points: the first and the last are kept, and of the others each that
-// would cost too much. The Rust passes over the position right after the last one kept: that is
-// position 1 alone, so the loop begins at 2.
+// Writes what is kept of more than two points, and answers how many that is: the first, the last, and
+// wherever it would cost too much to go straight from the last one kept to the point at `i`, the point
+// before `i`. The Rust passes over the position right after the last one kept: that is position 1 alone, so
+// the loop begins at 2.
 fn keep_many(points: &[i32], out: &mut [i32]) -> usize
     requires { ⌜ (badPoints (now points) ≡ false) × (2 < count (now points))
         × (length (limitPenalties (pointsOf (now points))) * 2 ≤ length (now out)) ⌝ }

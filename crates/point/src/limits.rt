@@ -40,7 +40,8 @@ pub fn bad_points(points: &[i32]) -> bool
     !fine
 }
 
-// The same of a list of points with fractions.
+// Whether a list of points with fractions has half a point, or a coordinate out of range, NaN or infinite.
+// It looks at all of the list, as `bad_points` does.
 pub fn bad_points_f64(points: &[f64]) -> bool
     ensures { λ r. ⌜ r ≡ badPointsF64 (now (points .entry)) ⌝ }
 {
@@ -85,7 +86,7 @@ pub fn in_range(value: i32) -> bool
     -FARTHEST <= value && value <= FARTHEST
 }
 
-// The same of a coordinate with a fraction. A NaN and an infinity are out of range.
+// Whether a coordinate with a fraction is in range. A NaN and an infinity are not.
 pub fn in_range_f64(value: f64) -> bool
     ensures { λ r. ⌜ r ≡ inRangeF64 value ⌝ }
 {

@@ -38,7 +38,8 @@ pub fn judge(
     judge_rest(corners, settings, n, tests::seen(n, closed), room, flags)
 }
 
-// The same of what is judged once the points are: `n` of them, of which `m` have a flag.
+// The lowest refusal of the flags, the settings and the room, where the points are fine: `n` of them, of
+// which `m` have a flag.
 fn judge_rest(
     corners: &[u8],
     settings: Settings,

@@ -135,7 +135,7 @@ begun a old = record { number = freshNumber a; spiral = freshOr a old }
 unfoldable pub stepped : Advanced → List ℤ → Counted (List ℤ)
 stepped a old = record { number = advancedNumber a; count = length (advancedValues a) / 2 ∷ []; buffers = into (advancedValues a) old }
 
--- the same with the struct
+-- a step, with what it leaves in the caller's struct
 unfoldable pub advancedTo : AdvancedOutcome → List ℤ → Counted (SpiralWalker × List ℤ)
 unfolding stepped
 advancedTo o old =

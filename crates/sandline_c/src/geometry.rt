@@ -21,7 +21,7 @@ pub extern "C" fn sandline_sqrt(x: f64) -> f64
     sqrt::sqrt(x)
 }
 
-// The same of its bits.
+// The bits of the square root of a double, from its bits.
 #[no_mangle]
 pub extern "C" fn sandline_sqrt_bits(b: u64) -> u64
     ensures { λ r. ⌜ r ≡ toBits binary64 (rootOf binary64 (ofBits binary64 b)) ⌝ }
@@ -87,7 +87,7 @@ pub extern "C" fn sandline_norm(x: f64, y: f64, length: &mut [f64; 1]) -> u8
     put_measure(util::norm(PointF64 { x: x, y: y }), length)
 }
 
-// The same of one in whole numbers.
+// The length of a vector of whole numbers.
 #[no_mangle]
 pub extern "C" fn sandline_norm_i32(x: i32, y: i32, length: &mut [f64; 1]) -> u8
     ensures { λ r. ⌜ record { number = r; values = now (length .exit) } ≡ measured (normOfI32 (pointOf x y)) (now (length .entry)) ⌝ }

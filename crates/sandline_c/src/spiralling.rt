@@ -22,7 +22,7 @@ pub extern "C" fn sandline_spiral(size: usize, fresh: &mut SpiralWalker) -> u8
     begun.number
 }
 
-// The same for a struct by value that holds `old`.
+// The number that is answered, and what the struct then holds: a fresh spiral or, refused, the `old` one.
 fn begin(size: usize, old: SpiralWalker) -> Begun
     ensures { λ r. ⌜ r ≡ begun (freshSpiral size) old ⌝ }
 {

@@ -35,7 +35,8 @@ pub fn subdivide_keep_corners(
     }
 }
 
-// The same where nothing is refused, for the points that have a flag.
+// Makes the round where nothing is refused: each point that has a flag, and what enters behind it; a closed
+// list ends with its first point again.
 fn round(
     points: &[f64],
     corners: &[u8],

@@ -35,7 +35,7 @@ farthest points first last =
     let d = distanceIn points first last in
     farther d (last - suc (suc first)) (suc (suc first)) (record { index = suc first; distance = d (suc first) })
 
--- the same of any two positions: where the list has no point between them it is the first, at -1
+-- the splitting point between any two positions: where the list has no point between them it is the first, at distance -1
 unfoldable pub farthestIn : List ℤ → ℕ → ℕ → Far
 unfolding farthest
 farthestIn points first last =

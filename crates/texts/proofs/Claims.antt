@@ -55,7 +55,7 @@ next-within text out at h =
     if-cases (λ (o : Outcome). o .next ≤ length out) (leb (at + length text) (length out)) _ _
     (λ t. leb-true (at + length text) (length out) t) (λ t. h)
 
--- The same, as a caller has it at hand: of the answer `r` and the buffer's last content.
+-- The place behind lies in the buffer or is its end, as a caller has it at hand: of the answer `r` and the buffer's last content.
 pub put-within : (text out last : List ℕ) (at r : ℕ) → record { next = r; out = last } ≡ put text out at → at ≤ length out →
     length last ≡ length out → r ≤ length last
 put-within text out last at r e h kept = omega (arith, next-within text out at h, ap (λ (o : Outcome). o .next) e)
