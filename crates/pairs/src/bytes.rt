@@ -24,7 +24,7 @@ pub fn read_bytes(word: &[u8], to: &mut [u8]) -> Read
 }
 
 // Reads the bytes of a word to the start of `to`, as `read_bytes` does; here the word of no bytes is `-`,
-// and an empty one is refused.
+// and an empty word is none.
 pub fn read_pairs(word: &[u8], to: &mut [u8]) -> Read
     ensures { λ r. ⌜ record { answer = r; to = now (to .exit) } ≡ readInto (pairsOf (now (word .entry))) (now (to .entry)) ⌝ }
 {

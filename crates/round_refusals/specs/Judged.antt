@@ -17,7 +17,7 @@ use Rattle.scheme.specs.Places.{count}
 use Rattle.round_refusals.specs.declared.Verdict.{Verdict}
 use Rattle.round_refusals.specs.declared.Verdict.the-variants.{Fine, Refused}
 
--- a closed list drops its last point unseen
+-- how many points a round looks at: a closed list drops its last point unseen
 abbrev pub seen : List Float → Bool → ℕ
 seen list closed = if closed then count list - 1 else count list
 
@@ -35,7 +35,7 @@ badSettings settings =
 abbrev pub placesFor : ℕ → ℕ
 placesFor n = n * 2 - 1
 
--- "closed subdivision of fewer than 2"
+-- the refusals, lowest first. TooFew is for "closed subdivision of fewer than 2"
 abbrev pub refusal : List Float → List ℕ → Settings → Bool → ℕ → ℕ → Option Refusal
 refusal list corners settings closed room flagRoom =
     refuse TooMany when tooMany (length list) or

@@ -14,7 +14,7 @@ pub enum Verdict {
     Refused(Refusal),
 }
 
-// The lowest refusal that applies, where the buffers have room for so many values and flags.
+// The lowest refusal that applies, where the buffers have room for `room` values and for `flags` flags.
 pub fn judge(
     points: &[f64],
     corners: &[u8],

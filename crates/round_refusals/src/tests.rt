@@ -34,6 +34,7 @@ pub(crate) fn bad_flags(corners: &[u8], m: usize) -> bool
     !all_flags(corners)
 }
 
+// Whether every flag is 0 or 1.
 fn all_flags(corners: &[u8]) -> bool
     ensures { λ r. ⌜ r ≡ every isFlag (now (corners .entry)) ⌝ }
 {
@@ -53,6 +54,7 @@ fn is_flag(v: u8) -> bool
     v <= 1
 }
 
+// Whether the ratio or the length is out of range, or NaN.
 pub(crate) fn bad_settings(settings: Settings) -> bool
     ensures { λ r. ⌜ r ≡ badSettings settings ⌝ }
 {
@@ -62,13 +64,14 @@ pub(crate) fn bad_settings(settings: Settings) -> bool
     !within(0.0, settings.length, 65536.0)
 }
 
+// From `low` to `high`, both counted in. Of a NaN it is false.
 fn within(low: f64, value: f64, high: f64) -> bool
     ensures { λ r. ⌜ r ≡ within low value high ⌝ }
 {
     low <= value && value <= high
 }
 
-// Whether buffers are too short for `n` points.
+// Whether buffers of `out` values and of `flags` flags are too short for a round of `n` points.
 pub(crate) fn short(n: usize, out: usize, flags: usize) -> bool
     requires { ⌜ n ≤ 4096 ⌝ }
     ensures { λ r. ⌜ r ≡ (ltb out (placesFor n * 2) || ltb flags (placesFor n)) ⌝ }

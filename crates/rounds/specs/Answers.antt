@@ -5,7 +5,7 @@ use Rattle.refusals.specs.Refusals.{refusalNumber}
 use Rattle.rounds.specs.declared.Subdivided.{Subdivided}
 use Rattle.rounds.specs.declared.Subdivided.the-variants.{Done, Refused}
 
--- document 01's number of each case, and its values: the count, and whether the round is finished. "A refusal has count 0"
+-- document 01's number of each case, and its values: the count, and whether the round is finished. "A refusal has count 0", and is not finished
 abbrev pub subdividedNumber : Subdivided → ℕ
 subdividedNumber (Done n finished) = 0
 subdividedNumber (Refused r) = refusalNumber r

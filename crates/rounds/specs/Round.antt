@@ -25,13 +25,16 @@ pub record Made : Type 0 where
   pub flags : List ℕ
   pub finished : Bool
 
+-- a point that enters, if one does, before the rest: it is no corner
 abbrev pub with-entered : Option PointF64 → Bool → Made → Made
 with-entered none settled rest = rest
 with-entered (some p) settled rest = record { points = p ∷ rest .points; flags = 0 ∷ rest .flags; finished = settled && rest .finished }
 
+-- a point and its flag before the rest
 abbrev pub with-point : PointF64 → ℕ → Made → Made
 with-point p flag rest = record { points = p ∷ rest .points; flags = flag ∷ rest .flags; finished = rest .finished }
 
+-- the n points from position i on, of m, and what enters behind each
 unfoldable pub madeFrom : List Float → List ℕ → Settings → Bool → ℕ → ℕ → ℕ → Made
 unfolding enteringBehind settled
 madeFrom list corners settings closed m i zero = record { points = []; flags = []; finished = true }
@@ -40,10 +43,11 @@ madeFrom list corners settings closed m i (suc n) =
     with-point (placeAt list i) (getD corners i 0)
     (with-entered p (settled list settings i (after closed m i) p) (madeFrom list corners settings closed m (suc i) n))
 
--- a closed list drops its last point unseen, and the round closes with the first again
+-- the round of a whole list; a closed one drops its last point unseen
 unfoldable pub roundOf : List Float → List ℕ → Settings → Bool → Made
 unfolding madeFrom
 roundOf list corners settings closed = madeFrom list corners settings closed (seen list closed) 0 (seen list closed)
 
+-- what stands behind the round: a closed list's first point again
 abbrev pub closing : List Float → Bool → List PointF64
 closing list closed = if closed then (placeAt list 0 ∷ []) else []

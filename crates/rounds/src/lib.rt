@@ -3,8 +3,8 @@ ghost use mathlib.Core.Path.{_≡_};
 ghost use Rattle.rounds.specs.Answers.{subdividedNumber, subdividedCount, subdividedFinished};
 use point::Refusal;
 
-// What a round answers: how many points there are and whether another round would do nothing, or why
-// there is none.
+// What a round answers: how many points there are and whether it is finished, or why there is none. It is
+// finished where no point entered, or every one left both parts of its segment at most the segment length.
 pub enum Subdivided {
     Done(usize, bool),
     Refused(Refusal),
@@ -31,7 +31,7 @@ impl Subdivided {
         }
     }
 
-    // Whether another round would do nothing: not so when it refused.
+    // Whether the round is finished: not so when it refused.
     pub fn finished(self) -> bool
         ensures { λ r. ⌜ r ≡ subdividedFinished self ⌝ }
     {

@@ -15,7 +15,11 @@ unfoldable pub distance : PointF64 → PointF64 → Float
 unfolding lengthOf
 distance p q = lengthOf (sub binary64 (p .x) (q .x)) (sub binary64 (p .y) (q .y))
 
--- ---- the new point between p and q, whose neighbours on the far sides are before and behind (find_new_point_from_4_point_scheme)
+-- ---- the new point between p and q, where the points around them are before and behind (find_new_point_from_4_point_scheme). It lies off the
+-- middle of p and q (out), away from the middle of before and behind (inner), by the distance between the two over the ratio; where that is
+-- less than f64::EPSILON, it is out itself
+
+-- f64::EPSILON: the least double above 1, less 1
 
 abbrev pub epsilon : Float
 epsilon = ofBits binary64 0x3cb0000000000000
@@ -37,22 +41,22 @@ newPoint p q before behind ratio =
 
 -- ---- one segment, from p to q
 
--- "skip at a neighbour ratio ≥ 2.0"
+-- "skip at a neighbour ratio ≥ 2.0": the neighbour is a segment beside the current one
 abbrev pub twice : Float → Float → Bool
 twice length curr = le (ofInt binary64 (pos 2)) (div binary64 length curr)
 
--- it is short, or a neighbour is twice as long
+-- it is left as it is: it is at most the segment length, or the segment before it (from prev) or behind it (to next) is at least twice as long
 unfoldable pub skippedBy : PointF64 → PointF64 → PointF64 → PointF64 → Float → Bool
 unfolding distance
 skippedBy p q prev next length =
     le (distance p q) length || twice (distance prev p) (distance p q) || twice (distance next q) (distance p q)
 
--- both its new parts are short
+-- neither of its new parts is longer than the segment length
 unfoldable pub settledBy : PointF64 → PointF64 → PointF64 → Float → Bool
 unfolding distance
 settledBy p q new length = not (lt length (distance p new) || lt length (distance q new))
 
--- the point that enters it, with its neighbours on the far sides
+-- the point that enters it, where the points around it are before and behind; and whether both its new parts are short
 unfoldable pub placedBy : Settings → PointF64 → PointF64 → PointF64 → PointF64 → Entering
 unfolding newPoint settledBy
 placedBy settings p q before behind =

@@ -17,20 +17,22 @@ use Rattle.scheme.specs.declared.Entering.the-variants.{Nothing, Point}
 
 -- ---- one segment, from the point at i to the one at j. A list has m points; a closed one wraps
 
+-- a corner has the flag 1
 abbrev pub isCorner : List ℕ → ℕ → Bool
 isCorner corners i = eqb (getD corners i 0) 1
 
+-- the position after i
 abbrev pub after : Bool → ℕ → ℕ → ℕ
 after closed m i = if closed && eqb (suc i) m then 0 else suc i
 
--- the neighbours on the far sides; at an open end it is the end itself
+-- the neighbour before i, and the one behind j; an end of an open list is its own
 abbrev pub prevOf : Bool → ℕ → ℕ → ℕ
 prevOf closed m i = if eqb i 0 then (if closed then m - 1 else i) else i - 1
 
 abbrev pub nextOf : Bool → ℕ → ℕ → ℕ
 nextOf closed m j = if eqb (suc j) m then (if closed then 0 else j) else suc j
 
--- a segment that is left as it is: it is short, or a neighbour is twice as long
+-- a segment that is left as it is: it is at most the segment length, or one beside it is at least twice as long
 unfoldable pub skipped : List Float → Settings → Bool → ℕ → ℕ → ℕ → Bool
 unfolding distance
 skipped list settings closed m i j =
@@ -41,14 +43,14 @@ skipped list settings closed m i j =
     twice (distance (placeAt list (prevOf closed m i)) p) curr ||
     twice (distance (placeAt list (nextOf closed m j)) q) curr
 
--- "3-point scheme at corners": the neighbour behind a corner counts for nothing
+-- "3-point scheme at corners": a corner is its own neighbour
 abbrev pub prevKept : List ℕ → Bool → ℕ → ℕ → ℕ
 prevKept corners closed m i = if isCorner corners i then i else prevOf closed m i
 
 abbrev pub nextKept : List ℕ → Bool → ℕ → ℕ → ℕ
 nextKept corners closed m j = if isCorner corners j then j else nextOf closed m j
 
--- between two corners nothing enters
+-- both ends of a segment are their own neighbours: each is a corner, or an end of an open list. Nothing enters there
 abbrev pub pinned : List ℕ → Bool → ℕ → ℕ → ℕ → Bool
 pinned corners closed m i j = eqb (prevKept corners closed m i) i && eqb (nextKept corners closed m j) j
 
@@ -69,7 +71,7 @@ settled list settings i j none = true
 settled list settings i j (some p) =
     not (lt (settings .length) (distance (placeAt list i) p) || lt (settings .length) (distance (placeAt list j) p))
 
--- as the code hands it on
+-- what enters a segment, and with a point whether it leaves the segment settled
 unfoldable pub entered : List Float → Settings → ℕ → ℕ → Option PointF64 → Entering
 unfolding settled
 entered list settings i j none = Nothing
@@ -92,7 +94,7 @@ enteredBehind list corners settings closed i =
 
 -- ---- as the code has it
 
--- what enters it, where the neighbours that count are at `before` and `behind`
+-- what enters a segment that is not left as it is, where the neighbours that count are at `before` and `behind`
 unfoldable pub enteredBetween : List Float → Settings → ℕ → ℕ → ℕ → ℕ → Entering
 unfolding placedBy
 enteredBetween list settings i j before behind =

@@ -47,7 +47,7 @@ pub fn enter_behind(
     Entering::Nothing
 }
 
-// What enters between the points at `i` and `j` of the first `m`.
+// What enters the segment between the points at `i` and `j`, of the first `m`.
 fn enter(
     points: &[f64],
     corners: &[u8],
@@ -99,7 +99,9 @@ fn is_skipped(
     )
 }
 
-// What enters between two positions that is not skipped. Between two corners nothing does.
+// What enters the segment between two positions, where it is not left as it is, and the neighbours that
+// count are at `before` and `behind`. Nothing does where each end is its own neighbour: a corner, or the end
+// of an open list.
 fn between(
     points: &[f64],
     settings: Settings,

@@ -9,7 +9,7 @@ ghost use Rattle.scheme.specs.Places.{count, placeAt};
 ghost use Rattle.segments.specs.Segments.{isCorner, prevOf, nextOf};
 use point::PointF64;
 
-// The neighbour that counts on the far side of a segment's end: of a corner it is the corner itself.
+// The neighbour that counts beyond the end `at` of a segment: a corner is its own.
 pub(crate) fn kept(corners: &[u8], at: usize, neighbour: usize) -> usize
     requires { ⌜ (at < length (now corners)) × (neighbour < length (now corners)) ⌝ }
     ensures { λ r. ⌜ (r ≡ (if isCorner (now (corners .entry)) at then at else neighbour)) × (r < length (now (corners .entry))) ⌝ }
@@ -17,7 +17,8 @@ pub(crate) fn kept(corners: &[u8], at: usize, neighbour: usize) -> usize
     if corners[at] == 1 { at } else { neighbour }
 }
 
-// Whether two positions are two others.
+// Whether `a` is `b`, and `c` is `d`. So both ends of a segment are pinned: the neighbour of each that counts
+// is the end itself.
 pub(crate) fn are(a: usize, b: usize, c: usize, d: usize) -> bool
     ensures { λ r. ⌜ r ≡ (eqb a b && eqb c d) ⌝ }
 {
@@ -35,7 +36,7 @@ pub(crate) fn place_at(points: &[f64], k: usize) -> PointF64
     }
 }
 
-// The neighbour before a segment from `i`; at an open end it is the end itself.
+// The position before a segment from `i`; the end of an open list is its own.
 pub(crate) fn prev_of(closed: bool, m: usize, i: usize) -> usize
     requires { ⌜ i < m ⌝ }
     ensures { λ r. ⌜ (r ≡ prevOf closed m i) × (r < m) ⌝ }
@@ -46,7 +47,7 @@ pub(crate) fn prev_of(closed: bool, m: usize, i: usize) -> usize
     if closed { m - 1 } else { i }
 }
 
-// The neighbour behind a segment to `j`.
+// The position behind a segment to `j`; the end of an open list is its own.
 pub(crate) fn next_of(closed: bool, m: usize, j: usize) -> usize
     requires { ⌜ j < m ⌝ }
     ensures { λ r. ⌜ (r ≡ nextOf closed m j) × (r < m) ⌝ }

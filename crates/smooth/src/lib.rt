@@ -1,5 +1,5 @@
-// One round of subdivision: between two points of an outline a third may enter, a little outside, so that
-// the outline is smoother; corners stay.
+// One round of subdivision: between two points of an outline a third may enter, beside the middle of the two
+// and away from the points around them, so that the outline bends more gently; corners stay.
 //
 // Lists of points are x, y, x, y, in lent slices; counts are points. Flags are bytes, 1 for a corner.
 //
