@@ -47,6 +47,7 @@ outOf list m i = vector (pointAt list i) (pointAt list (behind m i))
 abbrev pub isEnd : ℕ → ℕ → Bool
 isEnd m i = eqb i 0 || eqb (suc i) m
 
+-- the point at a position of m is a corner: an end of an open list, or a turn that is sharp enough
 unfoldable pub isCorner : List ℤ → Pair → Bool → ℕ → ℕ → Bool
 unfolding sharp into outOf
 isCorner list pair closed m i = (not closed && isEnd m i) || sharp pair (into list m i) (outOf list m i)
@@ -54,13 +55,13 @@ isCorner list pair closed m i = (not closed && isEnd m i) || sharp pair (into li
 abbrev pub flag : Bool → ℕ
 flag corner = if corner then 1 else 0
 
--- the flags of the n points from i on
+-- the flags of the n points from i on, of m
 unfoldable pub flagsFrom : List ℤ → Pair → Bool → ℕ → ℕ → ℕ → List ℕ
 unfolding isCorner
 flagsFrom list pair closed m i zero = []
 flagsFrom list pair closed m i (suc n) = flag (isCorner list pair closed m i) ∷ flagsFrom list pair closed m (suc i) n
 
--- "closed lists drop the last point unseen"
+-- how many points are looked at: "closed lists drop the last point unseen"
 abbrev pub seen : List ℤ → Bool → ℕ
 seen list closed = if closed then count list - 1 else count list
 

@@ -58,6 +58,7 @@ fn fair(pair: Pair) -> bool
     within(-1000, pair.c) && within(1, pair.s)
 }
 
+// From `low` to 1,000, both counted in.
 fn within(low: i32, v: i32) -> bool
     ensures { λ r. ⌜ r ≡ (leZ low v && leZ v (pos 1000)) ⌝ }
 {

@@ -12,7 +12,7 @@ ghost use Rattle.corners.specs.Sizes.{Short, Moderate};
 use crate::Pair;
 use point::PointI32;
 
-// Whether the turn at a position of the first `m` points is as sharp as the pair says.
+// Whether the turn at a position of the first `m` points is at least as sharp as the pair says.
 pub(crate) fn is_sharp(points: &[i32], pair: Pair, m: usize, i: usize) -> bool
     requires { ⌜ (badPoints (now points) ≡ false) × Moderate pair × (i < m) ⌝ }
     ensures { λ r. ⌜ r ≡ sharp pair (into (now (points .entry)) m i) (outOf (now (points .entry)) m i) ⌝ }
@@ -56,7 +56,7 @@ fn difference(a: i32, b: i32) -> i32
     a - b
 }
 
-// Whether a turn from one vector to another is as sharp as the pair says.
+// Whether the turn from one vector to another is at least as sharp as the pair says.
 fn sharp(pair: Pair, v1: PointI32, v2: PointI32) -> bool
     requires { ⌜ Moderate pair × Short v1 × Short v2 ⌝ }
     ensures { λ r. ⌜ r ≡ sharp pair v1 v2 ⌝ }
@@ -104,6 +104,7 @@ fn scaled(k: i32, v: i64) -> i64
     k as i64 * v
 }
 
+// Whether `a` is at least `b`.
 fn reaches(a: i64, b: i64) -> bool
     requires { ⌜ (natAbs a ≤ 2147221512000) × (natAbs b ≤ 2147221512000) ⌝ }
     ensures { λ r. ⌜ r ≡ leZ (pos 0) (a -ℤ b) ⌝ }

@@ -18,7 +18,8 @@ negligible v = lt (neg tiny) v && lt v tiny
 abbrev pub across : Float → Float → Float → Float → Float
 across a b c d = sub binary64 (mul binary64 a b) (mul binary64 c d)
 
--- find_intersection: "the 1e-7 tests and their order are the Rust's"
+-- find_intersection: "the 1e-7 tests and their order are the Rust's". The ratios mua and mub say where the crossing lies on the line from p1 to p2
+-- and on the one from p3 to p4: 0 is the first point, 1 the second
 unfoldable pub crossing : PointF64 → PointF64 → PointF64 → PointF64 → Intersection
 unfolding negligible
 crossing p1 p2 p3 p4 =

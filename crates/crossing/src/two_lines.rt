@@ -73,6 +73,7 @@ fn along(p: PointF64, q: PointF64, mu: f64) -> PointF64
     }
 }
 
+// The cross product of two vectors, in the order of the Rust's operations.
 fn across(a: f64, b: f64, c: f64, d: f64) -> f64
     ensures { λ r. ⌜ r ≡ across a b c d ⌝ }
 {
@@ -85,6 +86,7 @@ fn both_negligible(a: f64, b: f64) -> bool
     negligible(a) && negligible(b)
 }
 
+// Whether a number counts as 0.
 fn negligible(v: f64) -> bool
     ensures { λ r. ⌜ r ≡ negligible v ⌝ }
 {

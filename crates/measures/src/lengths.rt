@@ -10,7 +10,7 @@ use point::PointF64;
 use point::PointI32;
 use point::Refusal;
 
-// The point between two points.
+// The midpoint of two points.
 pub fn find_mid_point(p1: PointF64, p2: PointF64) -> MidPoint
     ensures { λ r. ⌜ r ≡ middleOf p1 p2 ⌝ }
 {
@@ -39,7 +39,7 @@ fn half(a: f64, b: f64) -> f64
     (a + b) / 2.0
 }
 
-// How long the vector to a point is.
+// How long the vector from (0,0) to a point is.
 pub fn norm(p: PointF64) -> Measure
     ensures { λ r. ⌜ r ≡ normOf p ⌝ }
 {
@@ -49,13 +49,14 @@ pub fn norm(p: PointF64) -> Measure
     Measure::Refused(Refusal::BadPoint)
 }
 
-// How long the vector to a point of whole numbers is.
+// How long the vector from (0,0) to a point of whole numbers is.
 pub fn norm_i32(p: PointI32) -> Measure
     ensures { λ r. ⌜ r ≡ normOfI32 p ⌝ }
 {
     norm_of(p.x, p.y)
 }
 
+// How long a vector of whole numbers is, where it is in range.
 fn norm_of(x: i32, y: i32) -> Measure
     ensures { λ r. ⌜ r ≡ normOfI32 (record { x = x; y = y }) ⌝ }
 {

@@ -29,7 +29,7 @@ refusal list room =
     refuse NoRoom when ltb room (placesFor (length list / 2) * 2) or
     none
 
--- as `judge` hands it on
+-- a refusal as it is handed on
 abbrev pub verdict : Option Refusal → Verdict
 verdict (some r) = Refused′ r
 verdict none = Fine

@@ -5,7 +5,7 @@ ghost use Rattle.ratios.specs.Answers.{intersectionNumber};
 ghost use Rattle.ratios.specs.Ratios.{off, outsideOf, insideOf, coincideOf};
 use crate::Intersection;
 
-// How far off its line a ratio may lie.
+// How far past its line's first point, 0, or its second, 1, a ratio may lie and still be on it.
 const E: f64 = 0.001;
 
 impl Intersection {
@@ -21,7 +21,7 @@ impl Intersection {
         }
     }
 
-    // Whether it lies outside of either line's two points.
+    // Whether the crossing lies off either line: not between its two points.
     pub fn outside(self) -> bool
         ensures { λ r. ⌜ r ≡ outsideOf self ⌝ }
     {
@@ -33,7 +33,7 @@ impl Intersection {
         }
     }
 
-    // Whether it lies between the two points of both lines.
+    // Whether the crossing lies on both lines: between the two points of each.
     pub fn inside(self) -> bool
         ensures { λ r. ⌜ r ≡ insideOf self ⌝ }
     {

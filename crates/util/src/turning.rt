@@ -55,6 +55,7 @@ fn difference(a: i32, b: i32) -> i32
     a - b
 }
 
+// Whether a point is in range.
 fn fine(p: PointI32) -> bool
     ensures { λ r. ⌜ r ≡ pointFine p ⌝ }
 {
