@@ -1,5 +1,6 @@
--- The Rust's limit_penalties: a point is kept where leaving it out would cost too much. The penalty is Heron's formula, operation by
--- operation as the Rust computes it, over the square root of the crate `sqrt`.
+-- The Rust's limit_penalties: from one point that is kept the outline goes straight to the next, and none of those left out between them costs
+-- too much. What a point costs, its penalty, is Heron's formula, operation by operation as the Rust computes it, over the square root of the
+-- crate `sqrt`.
 use Prim.Native.Nat.{ℕ, zero, suc, _-_}
 use mathlib.Core.Bool.{Bool, true, false}
 use mathlib.Core.List.{List, [], _∷_, _++_}
@@ -38,11 +39,11 @@ unfoldable pub greatest : (ℕ → Float) → ℕ → ℕ → Float → Float
 greatest f zero k m = m
 greatest f (suc n) k m = greatest f n (suc k) (if lt m (f k) then f k else m)
 
--- a point past the end stands for nothing
+-- the point at a position; past the end it is (0,0)
 abbrev pub at : List PointI32 → ℕ → PointI32
 at ps k = getD ps k (record { x = pos 0; y = pos 0 })
 
--- the greatest penalty between two positions
+-- the greatest penalty of the points between two positions, each for going straight from the one to the other; 0 where there are none
 unfoldable pub pastDelta : List PointI32 → ℕ → ℕ → Float
 unfolding greatest penalty
 pastDelta ps from to = greatest (λ k. penalty (at ps from) (at ps k) (at ps to)) (to - suc from) (suc from) (ofInt binary64 (pos 0))
@@ -56,8 +57,8 @@ tooCostly ps from to = le (ofInt binary64 (pos 1)) (pastDelta ps from to)
 abbrev pub closing : List PointI32 → ℕ → List ℕ
 closing ps i = if eqb (suc i) (length ps) then (i ∷ []) else []
 
--- Which of the n positions from i on are kept, after `last`: the one right after it is passed over, even as the last of all; any other
--- that would cost too much keeps the position before it.
+-- Which positions are kept on the way through the n from i on, where `last` was kept before: the one right after it is passed over, even as
+-- the last of all; where it would cost too much to go straight from `last` to any other, the one before that is kept.
 unfoldable pub limitFrom : List PointI32 → ℕ → ℕ → ℕ → List ℕ
 unfolding tooCostly
 limitFrom ps zero i last = []

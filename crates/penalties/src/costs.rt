@@ -15,8 +15,8 @@ use outline::point_at;
 const TOLERANCE: f64 = 1.0;
 
 // Whether the greatest penalty of the points between two positions reaches the tolerance. It does exactly
-// where one of them does, so the first that does decides, where the Rust's works all of them out. A penalty
-// that is no number counts for nothing. The side that takes their place is the same for all.
+// where one of them does, so the first that does decides; the Rust works all of them out. A penalty that is
+// NaN counts for nothing. The side from `from` to `to`, which takes the points' place, is worked out once.
 pub(crate) fn past_delta(points: &[i32], from: usize, to: usize) -> bool
     requires { ⌜ (badPoints (now points) ≡ false) × (from < to) × (to < count (now points)) ⌝ }
     ensures { λ r. ⌜ r ≡ tooCostly (pointsOf (now (points .entry))) from to ⌝ }

@@ -1,5 +1,6 @@
 // The points that an outline can do without at little cost, left out. Leaving a point out costs the square
-// of the area of its triangle over the side that takes its place.
+// of the area of the triangle that it makes with the points kept before and behind it, over the side between
+// these two.
 //
 // Lists of points are x, y, x, y, in lent slices; counts are points. Refusals are judged first, and
 // then nothing can fail.

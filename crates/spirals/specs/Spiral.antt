@@ -67,6 +67,7 @@ paced sq cc area step =
     leb area 262144 &&
     leb step area
 
+-- every field is in range
 abbrev pub sound : SpiralWalker → Bool
 sound s = placed (s .x) (s .y) (s .dir) (s .gx) (s .gy) && paced (s .sq) (s .cc) (s .area) (s .step)
 
@@ -84,7 +85,7 @@ goingX d = along 0 2 d
 abbrev pub goingY : ℤ → ℤ
 goingY d = along 1 3 d
 
--- every second side is one longer
+-- how long a side in direction d is, behind one of sq: every second side is one longer
 abbrev pub longer : ℤ → ℤ → ℤ
 longer d sq = if eqb (natAbs d % 2) 0 then sq +ℤ pos 1 else sq
 
@@ -120,7 +121,7 @@ corner d s = record {
 abbrev pub onward : SpiralWalker → SpiralWalker
 onward s = if ltZ (s .cc +ℤ pos 1) (s .sq) then ahead s else corner (turned (s .dir)) (ahead s)
 
--- "size 1 gives (0,0)"
+-- the one step of size 1, which moves nowhere: "size 1 gives (0,0)"
 abbrev pub alone : SpiralWalker → SpiralWalker
 alone s = record { x = s .x; y = s .y; dir = s .dir; gx = s .gx; gy = s .gy; sq = s .sq; cc = s .cc; area = s .area; step = s .step + 1 }
 

@@ -10,13 +10,18 @@ use point::Refusal;
 // Where such a walk stands, and how it goes on: clockwise, y down.
 #[repr(C)]
 pub struct SpiralWalker {
+    // The place that it stands on.
     pub x: i32,
     pub y: i32,
+    // The direction: 0 right, 1 down, 2 left, 3 up.
     pub dir: i32,
+    // What a step adds to x and to y in that direction.
     pub gx: i32,
     pub gy: i32,
+    // How many steps this side has, and how many of them are done.
     pub sq: i32,
     pub cc: i32,
+    // How many steps there are in all, and how many of them are done.
     pub area: usize,
     pub step: usize,
 }

@@ -20,7 +20,7 @@ segmentLength p q = natAbs (p .x -ℤ q .x) + natAbs (p .y -ℤ q .y)
 abbrev pub outwards : Bool → ℤ → Bool
 outwards clockwise area = not (eqb (natAbs area) 0) && Bool·beq (ltZ (pos 0) area) clockwise
 
--- whether a point stays between its neighbours
+-- whether a point stays between its neighbours: beside a step of one pixel where the outline turns outwards, and else in any case
 abbrev pub stays : Bool → PointI32 → PointI32 → PointI32 → Bool
 stays clockwise before p after =
     if eqb (segmentLength p before) 1 || eqb (segmentLength p after) 1 then outwards clockwise (signedArea before p after) else true

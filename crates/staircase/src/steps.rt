@@ -7,7 +7,7 @@ ghost use Rattle.util.specs.Near.{Near};
 ghost use Rattle.staircase.specs.Staircase.{segmentLength, outwards, stays};
 use point::PointI32;
 
-// A point beside a step of one pixel stays where the outline turns outwards, and any other stays.
+// Whether a point stays: beside a step of one pixel where the outline turns outwards, and else in any case.
 pub(crate) fn stays(before: PointI32, p: PointI32, after: PointI32, clockwise: bool) -> bool
     requires { ⌜ Near before × Near p × Near after ⌝ }
     ensures { λ r. ⌜ r ≡ stays clockwise before p after ⌝ }
@@ -21,7 +21,7 @@ pub(crate) fn stays(before: PointI32, p: PointI32, after: PointI32, clockwise: b
     true
 }
 
-// Whether an outline turns outwards at a point.
+// Whether an outline turns outwards at a point: the way that it goes round.
 fn outwards(before: PointI32, p: PointI32, after: PointI32, clockwise: bool) -> bool
     requires { ⌜ Near before × Near p × Near after ⌝ }
     ensures { λ r. ⌜ r ≡ outwards clockwise (signedArea before p after) ⌝ }
