@@ -35,6 +35,7 @@ splitRefusal list tolerance out marks =
     refuse NoRoom when shortFor (count list) out || ltb (length marks) (count list) or
     none
 
+-- the points that are kept, and a mark for each point of the list, each over the start of its buffer
 abbrev pub split : List ℤ → Float → List ℤ → List ℕ → Marked
 split list tolerance out marks =
     let ps = kept (marksOf tolerance list) (points list) in

@@ -28,6 +28,7 @@ pub record Points : Type 0 where
   pub answer : Answer
   pub out : List ℤ
 
+-- points laid over the start of a buffer, and counted
 abbrev pub handed : List PointI32 → List ℤ → Points
 handed ps out = record { answer = Done (length ps); out = over (flat ps) out }
 

@@ -12,7 +12,7 @@ select [] ps = []
 select (m ∷ marks) [] = []
 select (m ∷ marks) (p ∷ ps) = elim (eqb m 0) [ true ↦ select marks ps | false ↦ p ∷ select marks ps ]
 
--- the points of a list that Douglas-Peucker keeps: "of one point gives it twice"
+-- what is handed out of a list by its marks; Douglas-Peucker "of one point gives it twice", and so does a zoom
 unfoldable pub kept : List ℕ → List PointI32 → List PointI32
 unfolding select
 kept marks [] = []
@@ -24,12 +24,13 @@ abbrev pub mark : Bool → ℕ
 mark true = 1
 mark false = 0
 
--- the marks by the numbers: both ends are kept, and between them each point whose number is greater than the tolerance
+-- the marks of all points but the first, by their numbers: the last is kept
 unfoldable pub marksAfter : Float → List Float → List ℕ
 marksAfter tolerance [] = []
 marksAfter tolerance (v ∷ []) = 1 ∷ []
 marksAfter tolerance (v ∷ w ∷ vs) = mark (lt tolerance v) ∷ marksAfter tolerance (w ∷ vs)
 
+-- the marks by the numbers: both ends are kept, and between them each point whose number is greater than the tolerance
 unfoldable pub marksBy : Float → List Float → List ℕ
 unfolding marksAfter
 marksBy tolerance [] = []

@@ -8,7 +8,7 @@ pub enum Refusal {
     BadSize,
     // A list of points handed in has over 4,096 of them.
     TooMany,
-    // An odd count of values, or a coordinate out of range.
+    // An odd count of values, or a coordinate out of range, NaN or infinite.
     BadPoint,
     // There are fewer points than the call can do anything with.
     TooFew,

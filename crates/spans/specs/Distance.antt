@@ -13,6 +13,7 @@ zero64 = ofBits binary64 0
 abbrev pub one64 : Float
 one64 = ofBits binary64 0x3ff0000000000000
 
+-- a point as doubles
 abbrev pub placeOf : PointI32 → PointF64
 placeOf p = record { x = ofInt binary64 (p .x); y = ofInt binary64 (p .y) }
 
@@ -27,14 +28,14 @@ segmentOf a b =
     let dy = sub binary64 (b .y) (a .y) in
     record { x = a .x; y = a .y; x2 = b .x; y2 = b .y; dx = dx; dy = dy; squared = squares dx dy }
 
--- how far along a segment a point lies: 0 at its first end, 1 at its second
+-- how far along a segment the perpendicular from a point meets it: 0 at its first end, 1 at its second
 abbrev pub along : PointF64 → Segment → Float
 along p s =
     div binary64
     (add binary64 (mul binary64 (sub binary64 (p .x) (s .x)) (s .dx)) (mul binary64 (sub binary64 (p .y) (s .y)) (s .dy)))
     (s .squared)
 
--- the place of a segment that is nearest to where t says
+-- the place that lies so far along a segment; past an end it is that end
 unfoldable pub nearest : Segment → Float → PointF64
 nearest s t =
     if lt one64 t then record { x = s .x2; y = s .y2 } else
@@ -45,11 +46,12 @@ nearest s t =
 abbrev pub hasLength : Segment → Bool
 hasLength s = ne (s .dx) zero64 || ne (s .dy) zero64
 
--- a segment of two equal points is that point
+-- the place of a segment that is nearest to a point; a segment of two equal points is that point
 unfoldable pub foot : PointF64 → Segment → PointF64
 unfolding nearest
 foot p s = if hasLength s then nearest s (along p s) else record { x = s .x; y = s .y }
 
+-- the square of the distance from a point to a place, to a segment, and to the segment from p1 to p2
 abbrev pub fromPlace : PointF64 → PointF64 → Float
 fromPlace p f = squares (sub binary64 (p .x) (f .x)) (sub binary64 (p .y) (f .y))
 

@@ -10,6 +10,6 @@ pub record Small (p : PointI32) : Type 0 where
   pub small-x : natAbs (p .x) ≤ 2147483648
   pub small-y : natAbs (p .y) ≤ 2147483648
 
--- the point at a position is such
+-- the point at a position has such coordinates
 pub record SmallAt (points : List ℤ) (k : ℕ) : Type 0 where
   pub small-at : Small (pointAt points k)

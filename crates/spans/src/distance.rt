@@ -16,6 +16,7 @@ pub struct Segment {
     squared: f64,
 }
 
+// The segment from one point to another.
 pub(crate) fn between(p1: PointI32, p2: PointI32) -> Segment
     ensures { λ r. ⌜ r ≡ segmentOf (placeOf p1) (placeOf p2) ⌝ }
 {
@@ -45,6 +46,7 @@ pub(crate) fn get_sq_seg_dist(p: PointI32, s: Segment) -> f64
     dx * dx + dy * dy
 }
 
+// A point as doubles.
 fn place(p: PointI32) -> PointF64
     ensures { λ r. ⌜ r ≡ placeOf p ⌝ }
 {
@@ -70,7 +72,7 @@ fn has_length(s: Segment) -> bool
     s.dx != 0.0 || s.dy != 0.0
 }
 
-// The place of a segment that is nearest to where `t` says: 0 is its first end, and 1 its second.
+// The place that lies `t` along a segment: 0 is its first end, and 1 its second. Past an end it is that end.
 fn nearest(s: Segment, t: f64) -> PointF64
     ensures { λ r. ⌜ r ≡ nearest s t ⌝ }
 {

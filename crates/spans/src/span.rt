@@ -10,14 +10,14 @@ use crate::distance::between;
 use crate::distance::get_sq_seg_dist;
 use point::PointI32;
 
-// A position of a list, and the square of its point's distance.
+// A position of a list, and the square of its point's distance from a segment.
 pub struct Far {
     pub index: usize,
     pub distance: f64,
 }
 
 // The interior point of a span that lies farthest from the segment between its ends, the earliest
-// of equals. Where the list has no such point it is the first end, at -1.
+// of equals. Where the list has no such point it is the first end, at distance -1.
 pub fn farthest(points: &[i32], first: usize, last: usize) -> Far
     ensures { λ r. ⌜ r ≡ farthestIn (now (points .entry)) first last ⌝ }
 {
@@ -64,7 +64,7 @@ fn line_of(points: &[i32], first: usize, last: usize) -> Segment
     between(point_at(points, first), point_at(points, last))
 }
 
-// The square of the distance of the point at a position.
+// The square of the distance from the point at a position to a segment.
 fn distance_at(points: &[i32], k: usize, line: Segment) -> f64
     requires { ⌜ k < count (now points) ⌝ }
     ensures { λ r. ⌜ (r ≡ fromSegment (pointAt (now (points .entry)) k) line) × SmallAt (now (points .entry)) k ⌝ }

@@ -13,7 +13,8 @@ pub use Rattle.outline.specs.Points.{count, pointAt}
 pub use Rattle.spans.specs.Farthest.{distanceIn}
 unfoldable pub use Rattle.spans.specs.Farthest.{farthest}
 
--- ---- the tree of splits
+-- ---- the tree of splits: a node is a split at a position, with its distance and the trees of the span before it and of the one behind it; a span
+-- without interior is a leaf
 
 pub data Tree : Type 0 where
   leaf : Tree
@@ -29,7 +30,7 @@ treeOf points (suc n) first last = elim (ltb (suc first) last) [
       node (far .index) (far .distance) (treeOf points n first (far .index)) (treeOf points n (far .index) last)
 ]
 
--- of a span, and of a whole list
+-- the tree of a span, and of a whole list
 abbrev pub spanTree : List ℤ → ℕ → ℕ → Tree
 spanTree points first last = treeOf points (last - first) first last
 

@@ -62,6 +62,7 @@ fn least(a: f64, b: f64) -> f64
     a
 }
 
+// Puts the number 0 at the positions from `from` on and before `to`.
 fn fill(from: usize, to: usize, out: &mut [f64])
     requires { ⌜ (from ≤ to) × (to ≤ length (now out)) ⌝ }
     ensures { λ _. ⌜ now (out .exit) ≡ sets (now (out .entry)) from (replicate (to - from) zero64) ⌝ }
