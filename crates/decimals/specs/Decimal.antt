@@ -26,6 +26,6 @@ abbrev pub belowZero : Natural → Integer
 belowZero (Natural.Is n) = if ltb n 2147483649 then Integer.Is (negℤ (pos n)) else Integer.Not
 belowZero Natural.Not = Integer.Not
 
--- the same digits, a minus sign in front of them or not, that say what 32 bits hold
+-- decimal digits, a minus sign in front of them or not, that say what 32 bits hold
 abbrev pub integerOf : List ℕ → Integer
 integerOf w = if eqb (getD w 0 0) 45 then belowZero (naturalOf (drop 1 w)) else fromZero (naturalOf w)

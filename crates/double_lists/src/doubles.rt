@@ -11,8 +11,8 @@ use digits::read_pattern;
 use pairs::Read;
 use pairs::is_dash;
 
-// Reads a list, whose values `sep` parts, to the start of `to`, and answers how many values it has. Where one is no pattern, or
-// there is no room for all, it writes nothing.
+// Reads a list, with a `sep` between any two values, to the start of `to`, and answers how many values it
+// has. Where one is no pattern, or there is no room for all, it writes nothing.
 pub fn read_doubles(word: &[u8], sep: u8, to: &mut [f64]) -> Read
     ensures { λ r. ⌜ record { answer = r; to = now (to .exit) } ≡ readInto (listOf double sep (now (word .entry))) (now (to .entry)) ⌝ }
 {
@@ -29,6 +29,7 @@ pub fn read_doubles(word: &[u8], sep: u8, to: &mut [f64]) -> Read
     Read::Is(n)
 }
 
+// How many values a list has, if each is a pattern.
 fn count_doubles(word: &[u8], sep: u8) -> Read
     ensures { λ r. ⌜ r ≡ countOf (itemsOf double sep (now (word .entry))) ⌝ }
 {

@@ -23,6 +23,7 @@ badReply = 102 ∷ 102 ∷ 48 ∷ 98 ∷ 48 ∷ 48 ∷ 48 ∷ 48 ∷ []
 abbrev pub sixteenths : ℕ → Float
 sixteenths t = div binary64 (ofInt binary64 (pos t)) (ofInt binary64 (pos 16))
 
+-- what a frame is answered, by what it asks for
 unfoldable pub replyTo : Request → List ℕ
 unfolding pointsText numbersText
 replyTo (walk clockwise chart start pixels) = walkReply (walked chart pixels start clockwise room)
@@ -39,6 +40,7 @@ unfolding requestIn replyTo
 bytesReply none = badReply
 bytesReply (some bytes) = replyTo (requestIn bytes)
 
+-- what a line is answered, by the bytes that its digits say
 unfoldable pub answerTo : List ℕ → List ℕ
 unfolding bytesReply bytesOf
 answerTo line = bytesReply (bytesOf line)

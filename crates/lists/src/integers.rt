@@ -10,8 +10,8 @@ use decimals::read_integer;
 use pairs::Read;
 use pairs::is_dash;
 
-// Reads a list, whose values `sep` parts, to the start of `to`, and answers how many values it has. Where one is no number, or
-// there is no room for all, it writes nothing.
+// Reads a list, with a `sep` between any two values, to the start of `to`, and answers how many values it
+// has. Where one is no number, or there is no room for all, it writes nothing.
 pub fn read_integers(word: &[u8], sep: u8, to: &mut [i32]) -> Read
     ensures { λ r. ⌜ record { answer = r; to = now (to .exit) } ≡ readInto (listOf integer sep (now (word .entry))) (now (to .entry)) ⌝ }
 {
@@ -28,6 +28,7 @@ pub fn read_integers(word: &[u8], sep: u8, to: &mut [i32]) -> Read
     Read::Is(n)
 }
 
+// How many values a list has, if each is a number.
 fn count_integers(word: &[u8], sep: u8) -> Read
     ensures { λ r. ⌜ r ≡ countOf (itemsOf integer sep (now (word .entry))) ⌝ }
 {

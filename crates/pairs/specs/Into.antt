@@ -19,7 +19,7 @@ pub record Outcome (A : Type 0) : Type 0 where
   pub to : List A
 
 module _ {A : Type 0} where
-  -- a value in front of others, if there is none that failed
+  -- a value in front of others; none at all, where one of them was not read
   abbrev pub prepend : Option A → Option (List A) → Option (List A)
   prepend none xs = none
   prepend (some x) none = none
@@ -40,7 +40,7 @@ module _ {A : Type 0} where
   Room none n size = ⊥
   Room (some xs) n size = n + length xs ≤ size
 
-  -- where something failed, or there is no room for all, nothing is written
+  -- where one was not read, or there is no room for all, nothing is written
   abbrev pub readInto : Option (List A) → List A → Outcome A
   readInto none to = record { answer = Read.Not; to = to }
   readInto (some xs) to =

@@ -8,8 +8,8 @@ use crate::Read;
 use crate::is_dash;
 use digits::digit;
 
-// Reads the bytes of a word to the start of `to`, and answers how many there are. Where the digits are
-// odd or one is none, or there is no room for all, it writes nothing.
+// Reads the bytes of a word to the start of `to`, and answers how many there are. Where the count of
+// digits is odd, or something else stands between them, or there is no room for all, it writes nothing.
 pub fn read_bytes(word: &[u8], to: &mut [u8]) -> Read
     ensures { λ r. ⌜ record { answer = r; to = now (to .exit) } ≡ readInto (bytesOf (now (word .entry))) (now (to .entry)) ⌝ }
 {
@@ -37,6 +37,7 @@ pub fn read_pairs(word: &[u8], to: &mut [u8]) -> Read
     read_bytes(word, to)
 }
 
+// How many bytes a word says, if it says bytes.
 fn count_bytes(word: &[u8]) -> Read
     ensures { λ r. ⌜ r ≡ countOf (bytesOf (now (word .entry))) ⌝ }
 {

@@ -1,8 +1,8 @@
 // Bytes in one text, each as two hexadecimal digits, read to the start of a buffer that the caller
 // lends: all of them, or none.
 //
-// Nothing fails: where a digit is none, or there is no room for all, the answer is `Not`, and nothing
-// is written.
+// Nothing fails: where the word says no bytes, or there is no room for all, the answer is `Not`, and
+// nothing is written.
 mod bytes;
 
 pub use bytes::read_bytes;

@@ -20,7 +20,8 @@ pub fn put_reduced(list: &[i32], tolerance: f64, out: &mut [u8], at: usize) -> u
     replies::put_points(3, answer.number(), &kept[0..answer.count() * 2], out, at)
 }
 
-// Numbers the points, puts their numbers, and answers likewise.
+// Numbers the points, puts the numbers at a place of `out`, and answers the place behind them; where they
+// do not fit, the place itself.
 pub fn put_numbered(list: &[i32], out: &mut [u8], at: usize) -> usize
     ensures { λ r. ⌜ record { next = r; out = now (out .exit) }
         ≡ put (numbersReply (numberedOf (now (list .entry)) numberRoom)) (now (out .entry)) at ⌝ }

@@ -12,9 +12,11 @@ use Rattle.bitmap.specs.declared.Chart.{Chart}
 
 -- ---- numbers of two bytes
 
+-- at a place, the higher byte first
 abbrev pub wordAt : List ℕ → ℕ → ℕ
 wordAt bytes k = getD bytes k 0 * 256 + getD bytes (k + 1) 0
 
+-- read as a signed one
 abbrev pub signed : ℕ → ℤ
 signed n = if ltb n 32768 then pos n else (pos n -ℤ pos 65536)
 
@@ -24,7 +26,10 @@ valuesOf [] = []
 valuesOf (a ∷ []) = []
 valuesOf (a ∷ b ∷ rest) = signed (a * 256 + b) ∷ valuesOf rest
 
--- ---- the four kinds
+-- ---- the four kinds, and what is none
+
+-- a walk: clockwise or not, the chart, the start and the rows; a simplification: clockwise or not, and the points; a reduction: the tolerance in
+-- sixteenths, and the points; a numbering: the points
 
 pub data Request : Type 0 where
   walk : Bool → Chart → PointI32 → List ℕ → Request

@@ -43,8 +43,8 @@ pub(crate) fn numbers_in(frame: &[u8], to: &mut [i32]) -> Asked
     Asked::Numbers(decode(&frame[3..], to))
 }
 
-// Whether a frame is as long as the count at place `k`, with the points behind it, says, and there is
-// room for their values.
+// Whether a frame is as long as its count of points, at place `k`, asks for, and there is room for the
+// values of these.
 fn is_list(frame: &[u8], k: usize, room: usize) -> bool
     requires { ⌜ k ≤ 3 ⌝ }
     ensures { λ r. ⌜ r ≡ (eqb (length (now (frame .entry))) (k + 2 + wordAt (now (frame .entry)) k * 4)

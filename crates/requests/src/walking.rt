@@ -14,7 +14,7 @@ use crate::words::word;
 use bitmap::Chart;
 use point::PointI32;
 
-// It has no points, so that no buffer is needed.
+// Reads a frame of kind 01. It has no points, so that no buffer is needed.
 pub(crate) fn walk_in(frame: &[u8]) -> Asked
     ensures { λ r. ⌜ record { answer = r; to = [] } ≡ handed (walkIn (now (frame .entry))) [] ⌝ }
 {
@@ -44,6 +44,7 @@ fn start_in(frame: &[u8]) -> PointI32
     }
 }
 
+// Whether a frame has a direction, and is as long as the rows of its chart ask for.
 fn is_walk(frame: &[u8]) -> bool
     ensures { λ r. ⌜ r ≡ (directed (now (frame .entry))
         && eqb (length (now (frame .entry))) (10 + rowBytes (wordAt (now (frame .entry)) 2) * wordAt (now (frame .entry)) 4)) ⌝ }

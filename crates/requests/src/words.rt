@@ -5,6 +5,7 @@ ghost use lib.ListN.{length};
 ghost use Rattle.laws.specs.Lists.{over};
 ghost use Rattle.requests.specs.Frame.{wordAt, signed, valuesOf};
 
+// The number at a place.
 pub(crate) fn word(frame: &[u8], k: usize) -> u32
     requires { ⌜ k + 1 < length (now frame) ⌝ }
     ensures { λ r. ⌜ (r ≡ wordAt (now (frame .entry)) k) × (r < 65536) ⌝ }
@@ -18,6 +19,7 @@ fn byte(b: u8) -> u32
     b as u32
 }
 
+// A number of 16 bits, read as a signed one.
 pub(crate) fn signed(n: u32) -> i32
     requires { ⌜ n < 65536 ⌝ }
     ensures { λ r. ⌜ r ≡ signed n ⌝ }

@@ -9,7 +9,7 @@ use lib.ListN.{length, drop}
 use Rattle.laws.specs.If.{if_then_else_}
 use Rattle.split.specs.Tree.{count, marksOf, numbersOf}
 
--- a list laid over the start of a buffer, where there is a list and it has room
+-- an answer laid over the start of a buffer, where the list has a point and the buffer room for each
 abbrev pub laid : {A : Type 0} → List ℤ → List A → List A → List A
 laid points new old = if eqb (count points) 0 || ltb (length old) (count points) then old else (new ++ drop (count points) old)
 

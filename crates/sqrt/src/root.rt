@@ -65,7 +65,7 @@ fn normal_root(m: u64, e: u64) -> u64
     e / 2 * LEADING + rounded_root(m << (e % 2))
 }
 
-// The whole number nearest to the root of `n` times LEADING.
+// The whole number nearest to the root of the product of `n` and LEADING.
 fn rounded_root(n: u64) -> u64
     requires { ⌜ (2 ^ 52 ≤ n) × (n < 2 ^ 54) ⌝ }
     ensures { λ r. ⌜ NearestWhole (n * 2 ^ 52) r × (r ≤ 2 ^ 53) ⌝ }
@@ -91,8 +91,8 @@ fn lengthen(part: Part, b: u64, high: u64, low: u64) -> Part
     lowered(found * b + digit, rest % twice * b + low, digit * digit)
 }
 
-// The whole root of a number that has `left` above the square of `root`, less `square`: it is `root`,
-// or one less.
+// The whole root of the square of `root`, with `left` added and `square` taken off: it is `root`, or one
+// less.
 fn lowered(root: u64, left: u64, square: u64) -> Part
     requires { ⌜ (root < 2 ^ 54) × (left ≤ 2 * root) × (square < 2 * root) ⌝ }
     ensures { λ r. ⌜ Found (root * root + left - square) (r .root) (r .left) 1 ⌝ }

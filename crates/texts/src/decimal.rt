@@ -28,6 +28,7 @@ pub fn put_natural(n: u64, out: &mut [u8], at: usize) -> usize
     put_digits(n, 10, places(n), out, at)
 }
 
+// The digits of `n` behind a minus sign.
 fn put_negative(n: u64, out: &mut [u8], at: usize) -> usize
     ensures { λ r. ⌜ record { next = r; out = now (out .exit) } ≡ put (45 ∷ naturalText n) (now (out .entry)) at ⌝ }
 {
@@ -40,6 +41,7 @@ fn put_negative(n: u64, out: &mut [u8], at: usize) -> usize
     at
 }
 
+// How far a number lies from zero.
 fn magnitude(n: i64) -> u64
     ensures { λ r. ⌜ r ≡ natAbs n ⌝ }
 {

@@ -9,6 +9,7 @@ ghost use Rattle.texts.specs.Put.{put};
 ghost use Rattle.texts.specs.Text.{lowDigits, hexText};
 use crate::glyphs::glyph;
 
+// One byte.
 pub fn put_byte(b: u8, out: &mut [u8], at: usize) -> usize
     ensures { λ r. ⌜ record { next = r; out = now (out .exit) } ≡ put (b ∷ []) (now (out .entry)) at ⌝ }
 {
@@ -19,6 +20,7 @@ pub fn put_byte(b: u8, out: &mut [u8], at: usize) -> usize
     at
 }
 
+// The bytes of a text.
 pub fn put_bytes(text: &[u8], out: &mut [u8], at: usize) -> usize
     ensures { λ r. ⌜ record { next = r; out = now (out .exit) } ≡ put (now (text .entry)) (now (out .entry)) at ⌝ }
 {
@@ -39,7 +41,7 @@ pub fn put_hex(n: u64, digits: usize, out: &mut [u8], at: usize) -> usize
     put_digits(n, 16, 16, out, at)
 }
 
-// Whether `n` bytes fit behind place `at` of `len`.
+// Whether `n` bytes fit from place `at` on into a buffer of `len`.
 pub fn has_room(n: usize, len: usize, at: usize) -> bool
     ensures { λ r. ⌜ r ≡ leb (at + n) len ⌝ }
 {
@@ -60,6 +62,7 @@ fn copy(text: &[u8], out: &mut [u8], at: usize)
     }
 }
 
+// The lowest `k` digits of `n` in a base.
 pub(crate) fn put_digits(n: u64, base: u64, k: usize, out: &mut [u8], at: usize) -> usize
     requires { ⌜ (0 < base) × (base ≤ 16) ⌝ }
     ensures { λ r. ⌜ record { next = r; out = now (out .exit) } ≡ put (lowDigits base k n) (now (out .entry)) at ⌝ }
