@@ -68,7 +68,7 @@ reduced o = counted (o .answer) (o .out, o .scratch, o .marks)
 unfoldable pub walked : Walk → Counted (List ℤ)
 walked o = record { number = walkedNumber (o .answer); count = walkedCount (o .answer) ∷ []; buffers = o .out }
 
--- whether another round would do nothing, told where there was one
+-- whether the round is finished, told where it was made
 abbrev pub finishedOr : Subdivided → List Bool → List Bool
 finishedOr (Subdivided.Done n finished) old = finished ∷ []
 finishedOr (Subdivided.Refused r) old = old

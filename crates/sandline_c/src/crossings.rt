@@ -72,7 +72,7 @@ fn put_crossing(found: Intersection, values: &mut [f64]) -> usize
     }
 }
 
-// Whether a crossing lies outside of either line's two points. The values are those that
+// Whether a crossing lies off either line: not between its two points. The values are those that
 // `sandline_find_intersection` put, as many as it counted.
 #[no_mangle]
 pub extern "C" fn sandline_outside(values: &[f64]) -> bool
@@ -81,7 +81,7 @@ pub extern "C" fn sandline_outside(values: &[f64]) -> bool
     read_crossing(values).outside()
 }
 
-// Whether it lies between the two points of both lines.
+// Whether a crossing lies on both lines: between the two points of each.
 #[no_mangle]
 pub extern "C" fn sandline_inside(values: &[f64]) -> bool
     ensures { λ r. ⌜ r ≡ insideOf (crossed (now (values .entry))) ⌝ }

@@ -1,4 +1,4 @@
-// Charts, walks, spirals and frames.
+// Charts, walks and frames.
 ghost use mathlib.Core.Path.{_≡_};
 ghost use Rattle.bitmap.specs.Area.{areaOf};
 ghost use Rattle.bitmap.specs.Pixels.{pixelAt};
@@ -91,8 +91,8 @@ pub extern "C" fn sandline_walk(
     walked.number()
 }
 
-// The answer to a line that asks for a call, at a place of `out`: the place behind it, or the place itself
-// where it does not fit.
+// Puts the answer to a line, which is a frame or none, at a place of `out`, and answers the place behind it;
+// where it does not fit, the place itself.
 #[no_mangle]
 pub extern "C" fn sandline_answer(line: &[u8], out: &mut [u8], at: usize) -> usize
     ensures { λ r. ⌜ record { next = r; out = now (out .exit) } ≡ put (answerTo (now (line .entry))) (now (out .entry)) at ⌝ }

@@ -28,7 +28,8 @@ pub extern "C" fn sandline_find_corners(
     )
 }
 
-// One round; `finished` says whether another would do nothing.
+// One round; `finished` says whether each point that entered left both parts of its segment at most
+// `length` long.
 #[no_mangle]
 pub extern "C" fn sandline_subdivide_keep_corners(
     points: &[f64],

@@ -5,6 +5,7 @@ ghost use Rattle.reduce.specs.Calls.{radialOf, douglasPeuckerOf, reduceOf, numb
 ghost use Rattle.sandline_c.specs.Handed.{passed, points as handedPoints, numbered, marked, reduced};
 use crate::handing::hand;
 
+// The points that are left without one-pixel staircases.
 #[no_mangle]
 pub extern "C" fn sandline_remove_staircase(
     points: &[i32],
@@ -18,6 +19,7 @@ pub extern "C" fn sandline_remove_staircase(
     hand(simplify::remove_staircase(points, clockwise, out), count)
 }
 
+// The points that are left without those that cost little.
 #[no_mangle]
 pub extern "C" fn sandline_limit_penalties(
     points: &[i32],
@@ -30,6 +32,7 @@ pub extern "C" fn sandline_limit_penalties(
     hand(simplify::limit_penalties(points, out), count)
 }
 
+// The points that are left after both, staircases first.
 #[no_mangle]
 pub extern "C" fn sandline_simplify(
     points: &[i32],
@@ -43,6 +46,7 @@ pub extern "C" fn sandline_simplify(
     hand(simplify::simplify(points, clockwise, out), count)
 }
 
+// The points that the radial pass leaves at a squared tolerance.
 #[no_mangle]
 pub extern "C" fn sandline_simplify_radial_dist(
     points: &[i32],
@@ -56,6 +60,7 @@ pub extern "C" fn sandline_simplify_radial_dist(
     hand(reduce::simplify_radial_dist(points, tolerance, out), count)
 }
 
+// The points that Douglas-Peucker leaves at a squared tolerance, and a mark for each point of the list.
 #[no_mangle]
 pub extern "C" fn sandline_simplify_douglas_peucker(
     points: &[i32],
@@ -73,6 +78,7 @@ pub extern "C" fn sandline_simplify_douglas_peucker(
     )
 }
 
+// The points that are left at a tolerance after both, the radial pass first.
 #[no_mangle]
 pub extern "C" fn sandline_reduce(
     points: &[i32],
