@@ -1,35 +1,46 @@
 -- What follows of the contracts, for their readers and their callers. Assumes nothing.
-use Prim.Native.Nat.{ℕ, _+_, _≤_, zero-le}
+use Prim.Native.Nat.{ℕ, _+_, _-_, _≤_, zero-le}
 use mathlib.Core.Bool.{_||_}
 use mathlib.Core.List.{List}
-use mathlib.Core.Path.{_≡_, sym, ap, ap₂, subst, _∙_}
+use mathlib.Core.Path.{_≡_, refl, sym, ap, ap₂, subst, _∙_}
 use native.Mathlib.Omega.{arith}
 use lib.Dec.{ltb, eqb}
-use lib.ListN.{length}
-use borrow.Author.Tests.{ltb-true}
+use lib.ListN.{length, take, drop}
+use borrow.Author.Tests.{ltb-true, ltb-false}
 use denote.Ref.{now}
+use Rattle.texts.proofs.Claims.{next-within}
 use Rattle.lines.specs.If.{if-cases}
-use Rattle.lines.specs.Reader.{Outcome, fedReader, inside, newline, lineEnds, inputEnds, count, refill, took, taken}
+use Rattle.lines.specs.Reader.{Outcome, inside, newline, lineEnds, inputEnds, count, refill, took, taken}
+use Rattle.lines.specs.Turns.{Next, Step, begun, fedState, answeredState, turnOf, nextTurn, line, stepped, stepOf}
 use Rattle.lines.specs.declared.reader.Reader.{Reader}
 use Rattle.lines.specs.declared.reader.Taken.{Taken}
 use Rattle.lines.specs.declared.reader.Taken.the-variants.{Line, More, End}
-use Rattle.lines.proofs.reader.fresh.Reads as fresh
-use Rattle.lines.proofs.reader.fed.Reads as fed
-use Rattle.lines.proofs.reader.take.Reads as take
+use Rattle.lines.specs.declared.turns.State.{State}
+use Rattle.lines.specs.declared.turns.Turn.{Turn}
+use Rattle.lines.specs.declared.turns.Turn.the-variants as Turn
+use Rattle.lines.proofs.turns.begin.Reads as begin
+use Rattle.lines.proofs.turns.fed.Reads as fed
+use Rattle.lines.proofs.turns.answered.Reads as answered
+use Rattle.lines.proofs.turns.next.Reads as next
 
 -- No contract leaves a choice: of equal arguments it allows one result, and one last content of the buffer. `Post` is the
 -- contract itself, as Rattle reads it off the source, at arguments `a`, a result `r` and parameters at exit `s`.
-pub fresh-determined : (κs : _) (a a′ : _) (r r′ : Reader) (s s′ : _) → fresh.Post κs a r s → fresh.Post κs a′ r′ s′ → r ≡ r′
-fresh-determined κs a a′ r r′ s s′ p q = p ∙ sym q
+pub begin-determined : (κs : _) (a a′ : _) (r r′ : State) (s s′ : _) → begin.Post κs a r s → begin.Post κs a′ r′ s′ → r ≡ r′
+begin-determined κs a a′ r r′ s s′ p q = p ∙ sym q
 
-pub fed-determined : (κs : _) (a a′ : _) (r r′ : Reader) (s s′ : _) → fed.Post κs a r s → fed.Post κs a′ r′ s′ →
+pub fed-determined : (κs : _) (a a′ : _) (r r′ : State) (s s′ : _) → fed.Post κs a r s → fed.Post κs a′ r′ s′ →
     a .0 ≡ a′ .0 → a .1 .0 ≡ a′ .1 .0 → r ≡ r′
-fed-determined κs a a′ r r′ s s′ p q reader got = p ∙ ap₂ fedReader reader got ∙ sym q
+fed-determined κs a a′ r r′ s s′ p q state got = p ∙ ap₂ fedState state got ∙ sym q
 
-pub take-determined : (κs : _) (a a′ : _) (t t′ : Taken) (s s′ : _) → take.Post κs a t s → take.Post κs a′ t′ s′ →
-    a .0 ≡ a′ .0 → now (a .1 .0) ≡ now (a′ .1 .0) →
-    _≡_ {A = Outcome} (record { answer = t; buffer = now (s .1 .0) }) (record { answer = t′; buffer = now (s′ .1 .0) })
-take-determined κs a a′ t t′ s s′ p q reader buffer = p ∙ ap₂ taken reader buffer ∙ sym q
+pub answered-determined : (κs : _) (a a′ : _) (r r′ : State) (s s′ : _) → answered.Post κs a r s → answered.Post κs a′ r′ s′ →
+    a .0 ≡ a′ .0 → a .1 .0 ≡ a′ .1 .0 → r ≡ r′
+answered-determined κs a a′ r r′ s s′ p q state end = p ∙ ap₂ answeredState state end ∙ sym q
+
+pub next-determined : (κs : _) (a a′ : _) (t t′ : Turn) (s s′ : _) → next.Post κs a t s → next.Post κs a′ t′ s′ →
+    a .0 ≡ a′ .0 → a .1 .0 ≡ a′ .1 .0 → now (a .1 .1 .0) ≡ now (a′ .1 .1 .0) →
+    _≡_ {A = Next} (record { turn = t; input = now (s .1 .1 .0) }) (record { turn = t′; input = now (s′ .1 .1 .0) })
+next-determined κs a a′ t t′ s s′ p q state most input =
+    p ∙ ap₂ (λ (x : State) (y : ℕ). nextTurn x y (now (a .1 .1 .0))) state most ∙ ap (nextTurn (a′ .0) (a′ .1 .0)) input ∙ sym q
 
 -- A line that is handed out lies in the buffer, and so does the place to read into.
 abbrev pub Within : Taken → ℕ → Type 0
@@ -63,16 +74,82 @@ pub within : (r : Reader) (b : List ℕ) → Within (taken r b .answer) (length 
 unfolding taken
 within r b = took-within (inside r (length b)) b (omega arith) (omega arith) (omega arith)
 
--- The same, as a caller of `take` has it at hand: of the answer `t` and the buffer's last content.
-module _ (r : Reader) (b last : List ℕ) (t : Taken) (next : Reader) (e : record { answer = t; buffer = last } ≡ taken r b) (kept : length last ≡ length b) where
-  answered : (u : Taken) → t ≡ u → Within u (length last)
-  answered u k = rw kept (subst (λ (v : Taken). Within v (length b)) (sym (ap (λ (o : Outcome). o .answer) e) ∙ k) (within r b))
+-- What a turn asks for lies in its buffer: the places of the input's `n` bytes, and of the output no more than what waits there. A line is
+-- answered where no more than `most` bytes wait.
+abbrev pub Placed : Turn → ℕ → ℕ → ℕ → Type 0
+Placed (Turn.Line from to next) n most waiting = (from ≤ to) × (to ≤ n) × (next .waiting ≤ most) × (next .waiting ≡ waiting)
+Placed (Turn.Write bytes next) n most waiting = (bytes ≡ waiting) × (next .waiting ≡ 0)
+Placed (Turn.Read at next) n most waiting = (at ≤ n) × (next .waiting ≡ 0)
+Placed Turn.End n most waiting = Unit {0}
 
-  pub line-starts : (from to : ℕ) → t ≡ Line from to next → from ≤ to
-  line-starts from to k = answered (Line from to next) k .0
+module _ (s : State) (most : ℕ) where
+  of-taken : (t : Taken) (n : ℕ) → s .waiting ≤ most → Within t n → Placed (turnOf s t) n most (s .waiting)
+  of-taken (Line from to r) n h w = (w .0, w .1, h, refl)
+  of-taken (More at r) n h w = if-cases (λ (t : Turn). Placed t n most (s .waiting)) (ltb 0 (s .waiting)) _ _ (λ l. (refl, refl)) (λ l. (w, refl))
+  of-taken End n h w = if-cases (λ (t : Turn). Placed t n most (s .waiting)) (ltb 0 (s .waiting)) _ _ (λ l. (refl, refl)) (λ l. tt)
 
-  pub line-ends : (from to : ℕ) → t ≡ Line from to next → to ≤ length last
-  line-ends from to k = answered (Line from to next) k .1
+  pub placed : (b : List ℕ) → Placed (nextTurn s most b .turn) (length b) most (s .waiting)
+  unfolding nextTurn
+  placed b =
+      if-cases (λ (o : Next). Placed (o .turn) (length b) most (s .waiting)) (ltb most (s .waiting)) _ _ (λ l. (refl, refl))
+      (λ l. of-taken (taken (s .reader) b .answer) (length b) (ltb-false most (s .waiting) l) (within (s .reader) b))
 
-  pub more-fits : (at : ℕ) → t ≡ More at next → at ≤ length last
-  more-fits at k = answered (More at next) k
+-- As a caller of `next` has it at hand: of the turn `t` and the buffer's last content.
+module _ (s : State) (most : ℕ) (b last : List ℕ) (t : Turn) (next : State) (e : record { turn = t; input = last } ≡ nextTurn s most b) (kept : length last ≡ length b) where
+  asked : (u : Turn) → t ≡ u → Placed u (length last) most (s .waiting)
+  asked u k = rw kept (subst (λ (v : Turn). Placed v (length b) most (s .waiting)) (sym (ap (λ (o : Next). o .turn) e) ∙ k) (placed s most b))
+
+  pub line-starts : (from to : ℕ) → t ≡ Turn.Line from to next → from ≤ to
+  line-starts from to k = asked (Turn.Line from to next) k .0
+
+  pub line-ends : (from to : ℕ) → t ≡ Turn.Line from to next → to ≤ length last
+  line-ends from to k = asked (Turn.Line from to next) k .1
+
+  pub line-has-room : (from to : ℕ) → t ≡ Turn.Line from to next → next .waiting ≤ most
+  line-has-room from to k = asked (Turn.Line from to next) k .2
+
+-- ---- what waits lies in an output of `m` bytes
+
+pub begin-waits : (s : State) (m : ℕ) → s ≡ begun → s .waiting ≤ m
+begin-waits s m e = rw e (omega arith)
+
+-- ---- a program's step
+
+-- What a step asks for lies in its buffers, of `n` and `m` bytes, and so does what waits behind it.
+abbrev pub Asks : Turn → ℕ → ℕ → Type 0
+Asks (Turn.Line from to next) n m = next .waiting ≤ m
+Asks (Turn.Write bytes next) n m = (bytes ≤ m) × (next .waiting ≤ m)
+Asks (Turn.Read at next) n m = (at ≤ n) × (next .waiting ≤ m)
+Asks Turn.End n m = Unit {0}
+
+module _ (answer : List ℕ → List ℕ) (s : State) (most : ℕ) (input output : List ℕ) (fits : s .waiting ≤ length output) where
+  of-turn : (t : Turn) (b : List ℕ) → Placed t (length input) most (s .waiting) → Asks (stepped answer t b output .turn) (length input) (length output)
+  of-turn (Turn.Line from to next) b p = next-within (line (answer (take (to - from) (drop from b)))) output (next .waiting) (omega (arith, p .3))
+  of-turn (Turn.Write bytes next) b p = (omega (arith, p .0), omega (arith, p .1))
+  of-turn (Turn.Read at next) b p = (p .0, omega (arith, p .1))
+  of-turn Turn.End b p = tt
+
+  pub asks : Asks (stepOf answer s most input output .turn) (length input) (length output)
+  unfolding stepOf
+  asks = of-turn (nextTurn s most input .turn) (nextTurn s most input .input) (placed s most input)
+
+  -- as a program has it at hand: of the turn `t` and the buffers' last contents
+  module _ (t : Turn) (in′ out′ : List ℕ) (next : State) (e : record { turn = t; input = in′; output = out′ } ≡ stepOf answer s most input output)
+      (in-kept : length in′ ≡ length input) (out-kept : length out′ ≡ length output) where
+    of-step : (u : Turn) → t ≡ u → Asks u (length in′) (length out′)
+    of-step u k = rw (in-kept, out-kept) (subst (λ (v : Turn). Asks v (length input) (length output)) (sym (ap (λ (o : Step). o .turn) e) ∙ k) asks)
+
+    pub answer-waits : (from to : ℕ) → t ≡ Turn.Line from to next → next .waiting ≤ length out′
+    answer-waits from to k = of-step (Turn.Line from to next) k
+
+    pub write-fits : (bytes : ℕ) → t ≡ Turn.Write bytes next → bytes ≤ length out′
+    write-fits bytes k = of-step (Turn.Write bytes next) k .0
+
+    pub write-waits : (bytes : ℕ) → t ≡ Turn.Write bytes next → next .waiting ≤ length out′
+    write-waits bytes k = of-step (Turn.Write bytes next) k .1
+
+    pub read-fits : (at : ℕ) → t ≡ Turn.Read at next → at ≤ length in′
+    read-fits at k = of-step (Turn.Read at next) k .0
+
+    pub read-waits : (at got : ℕ) (q : State) → q ≡ fedState next got → t ≡ Turn.Read at next → q .waiting ≤ length out′
+    read-waits at got q f k = rw f (of-step (Turn.Read at next) k .1)

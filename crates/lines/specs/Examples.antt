@@ -2,8 +2,12 @@
 use mathlib.Core.Bool.{true, false}
 use mathlib.Core.List.{[], _∷_}
 use mathlib.Core.Path.{_≡_, refl}
+use Prim.Native.Nat.{ℕ}
+use Rattle.texts.specs.Put.{put}
 use Rattle.line_words.specs.Split.{upTo}
 use Rattle.lines.specs.Reader.{freshReader, fedReader, refill, taken}
+use Rattle.lines.specs.Turns.{nextTurn, stepOf}
+use Rattle.lines.specs.Runs.{linesOf, wholeLines, Machine, after, started}
 use Rattle.lines.specs.declared.reader.Taken.the-variants.{Line, More, End}
 
 -- nothing is held yet: all of the buffer is to be read into
@@ -51,3 +55,38 @@ its-end : taken (record { start = 0; seen = 0; end = 2; over = false; long = tru
     Line 1 1 (record { start = 2; seen = 2; end = 2; over = false; long = false })
 unfolding upTo refill taken
 its-end = refl
+
+-- ---- the lines of a text
+
+-- `a`, an empty line, and `b` without a newline
+three-lines : linesOf (97 ∷ 10 ∷ 10 ∷ 98 ∷ []) ≡ (97 ∷ []) ∷ [] ∷ (98 ∷ []) ∷ []
+unfolding linesOf
+three-lines = refl
+
+two-are-whole : wholeLines (97 ∷ 10 ∷ 10 ∷ 98 ∷ []) ≡ (97 ∷ []) ∷ [] ∷ []
+unfolding wholeLines
+two-are-whole = refl
+
+-- a text that ends in a newline has no line behind it
+nothing-behind : linesOf (97 ∷ 10 ∷ []) ≡ (97 ∷ []) ∷ []
+unfolding linesOf
+nothing-behind = refl
+
+-- ---- a program that answers each line by itself, on the text `a`, newline, `b`, with buffers of three and four bytes, read a byte at a time
+
+abbrev echo : ℕ → Machine
+unfolding after
+echo n = after (λ l. l) 2 (λ k. 0) n (started (0 ∷ 0 ∷ 0 ∷ []) (0 ∷ 0 ∷ 0 ∷ 0 ∷ []) (97 ∷ 10 ∷ 98 ∷ []))
+
+-- two reads, an answer, and it is written before the third read
+first-answer : echo 4 .written ≡ 97 ∷ 10 ∷ []
+unfolding upTo refill taken put nextTurn stepOf after
+first-answer = refl
+
+not-read-yet : echo 4 .text ≡ 98 ∷ []
+unfolding upTo refill taken put nextTurn stepOf after
+not-read-yet = refl
+
+both-answers : echo 8 .written ≡ 97 ∷ 10 ∷ 98 ∷ 10 ∷ []
+unfolding upTo refill taken put nextTurn stepOf after
+both-answers = refl

@@ -1,17 +1,19 @@
-// Lines of text in a buffer that the caller lends, and the words of a line.
+// Lines of text in buffers that the caller lends: what a program that answers each line of its input does
+// next (`next`), turn by turn; and the words of a line, which stand in `line_words`.
 //
-// Nothing here reads or writes a file: the caller reads into the buffer where `take` says, and `fed`
-// tells the reader how much came. Nothing fails, for any reader, buffer or line. The words stand in
-// `line_words`. The deepest call, of `take`, takes 16 bytes of stack with its return address
-// (measured on the x86-64 code).
+// Nothing here reads or writes a file: the program reads into the input's buffer where a turn says, and
+// writes of the output as much as it says. Nothing fails, for any state, buffer or line.
 mod reader;
 mod refill;
+mod turns;
 
 pub use line_words::find;
 pub use line_words::word;
 pub use line_words::words;
 pub use reader::Reader;
-pub use reader::Taken;
-pub use reader::fed;
-pub use reader::fresh;
-pub use reader::take;
+pub use turns::State;
+pub use turns::Turn;
+pub use turns::answered;
+pub use turns::begin;
+pub use turns::fed;
+pub use turns::next;

@@ -33,7 +33,7 @@ pub enum Taken {
 }
 
 // The reader of an input of which nothing was read yet.
-pub fn fresh() -> Reader
+pub(crate) fn fresh() -> Reader
     ensures { λ r. ⌜ r ≡ freshReader ⌝ }
 {
     Reader {
@@ -46,7 +46,7 @@ pub fn fresh() -> Reader
 }
 
 // The reader once `got` more bytes stand in the buffer. None means that the input has ended.
-pub fn fed(r: Reader, got: usize) -> Reader
+pub(crate) fn fed(r: Reader, got: usize) -> Reader
     ensures { λ q. ⌜ q ≡ fedReader r got ⌝ }
 {
     Reader {
@@ -60,7 +60,7 @@ pub fn fed(r: Reader, got: usize) -> Reader
 
 // The next line of the buffer, or what is to be done to get it. Places of `r` that lie outside the
 // buffer count as its end.
-pub fn take(r: Reader, buffer: &mut [u8]) -> Taken
+pub(crate) fn take(r: Reader, buffer: &mut [u8]) -> Taken
     ensures { λ t. ⌜ record { answer = t; buffer = now (buffer .exit) } ≡ taken r (now (buffer .entry)) ⌝ }
 {
     let held = within(r, buffer.len());

@@ -1,18 +1,15 @@
-// Answers the frames of standard input, one to a line, with a line each, until the input ends or the
-// output is closed.
-//
-// Stack, in x86-64 code at -O3: 189,712 bytes, which is 185.3 KiB, with the arrays of `frames` in the same
-// frame, and the recursion that `frames` names. There is no other memory.
-ghost use mathlib.Core.List.{[], _∷_, _++_};
-ghost use mathlib.Core.Path.{_≡_};
-ghost use Prim.Native.Nat.{_+_, _≤_};
+// Answers the frames of standard input, one to a line, with a line each, until the input ends. `step` says what
+// is to be done next; here it is done, and nothing else. A read or a write that fails is told on standard
+// error, and ends the program.
+mod step;
+
+ghost use Prim.Native.Nat.{_≤_};
 ghost use lib.ListN.{length};
-ghost use Rattle.texts.specs.Put.{put};
-ghost use Rattle.frames.specs.Reply.{answerTo};
-ghost use Rattle.sandline.specs.Room.{HasRoom};
+use libc::STDERR_FILENO;
 use libc::STDIN_FILENO;
 use libc::STDOUT_FILENO;
-use lines::Taken;
+use lines::Turn;
+use step::step;
 
 // A line has at most 32,768 digits either way, and its newline: the longest fits the input, and fits the
 // output behind 4,095 bytes.
@@ -27,70 +24,57 @@ fn main() {
 fn answer_all(input: &mut [u8], output: &mut [u8])
     requires { ⌜ 36864 ≤ length (now output) ⌝ }
 {
-    let mut reader = lines::fresh();
-    let mut at = 0;
+    let mut state = lines::begin();
     let mut turns = u64::MAX;
     while 0 < turns {
         turns -= 1;
-        match lines::take(reader, input) {
-            Taken::Line { from, to, next } => {
-                reader = next;
-                let Collected::At(place) = collect(&input[from..to], output, at) else {
+        match step(state, input, output) {
+            Turn::Line {
+                from: _,
+                to: _,
+                next,
+            } => {
+                state = next;
+            }
+            Turn::Write { bytes, next } => {
+                if !write(&output[0..bytes]) {
+                    return;
+                }
+                state = next;
+            }
+            Turn::Read { at, next } => {
+                let Got::Bytes(n) = read(&mut input[at..]) else {
                     return;
                 };
-                at = place;
+                state = lines::fed(next, n);
             }
-            Taken::More { at: place, next } => {
-                reader = lines::fed(next, read(&mut input[place..]));
-            }
-            Taken::End => {
-                write(output, at);
+            Turn::End => {
                 return;
             }
         }
     }
 }
 
-// Where the next answer goes; or that nobody reads the output.
-pub enum Collected {
-    At(usize),
-    Closed,
+// How many bytes came, none at the end of the input; or that it cannot be read.
+pub enum Got {
+    Bytes(usize),
+    Failed,
 }
 
-// Answers a line, and writes the output where it has no room for a longest line behind.
-fn collect(line: &[u8], output: &mut [u8], at: usize) -> Collected
-    requires { ⌜ (at ≤ 4095) × (36864 ≤ length (now output)) ⌝ }
-    ensures { λ r. ⌜ HasRoom r ⌝ }
-{
-    let next = put_line(line, output, at);
-    if next <= 4095 {
-        return Collected::At(next);
-    }
-    if write(output, next) {
-        return Collected::At(0);
-    }
-    Collected::Closed
-}
-
-// Puts the answer to a line and a newline at a place of the output, and answers the place behind them.
-fn put_line(line: &[u8], output: &mut [u8], at: usize) -> usize
-    requires { ⌜ at + 32769 ≤ length (now output) ⌝ }
-    ensures { λ r. ⌜ record { next = r; out = now (output .exit) }
-        ≡ put (answerTo (now (line .entry)) ++ (10 ∷ [])) (now (output .entry)) at ⌝ }
-{
-    let end = frames::answer(line, output, at);
-    texts::put_byte(b'\n', output, end)
-}
-
-fn read(part: &mut [u8]) -> usize {
+fn read(part: &mut [u8]) -> Got {
     let got = libc::read(STDIN_FILENO, part);
-    io::count(got, part)
+    if got < 0 {
+        io::write_all(STDERR_FILENO, b"sandline: the input cannot be read\n");
+        return Got::Failed;
+    }
+    Got::Bytes(io::count(got, part))
 }
 
-// Writes the output up to a place, and says whether it was taken.
-fn write(output: &[u8], to: usize) -> bool {
-    if to <= output.len() {
-        return io::write_all(STDOUT_FILENO, &output[0..to]);
+// Whether all was written.
+fn write(part: &[u8]) -> bool {
+    if io::write_all(STDOUT_FILENO, part) {
+        return true;
     }
+    io::write_all(STDERR_FILENO, b"sandline: the output cannot be written\n");
     false
 }

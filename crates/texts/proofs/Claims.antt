@@ -49,7 +49,7 @@ pub put-hex-determined : (κs : _) (a a′ : _) (r r′ : ℕ) (s s′ : _) → 
 put-hex-determined κs a a′ r r′ s s′ p q n digits out at = put-same _ _ _ _ _ _ _ _ p q (ap₂ hexText digits n) out at
 
 -- The place behind lies in the buffer, or is its end.
-next-within : (text out : List ℕ) (at : ℕ) → at ≤ length out → put text out at .next ≤ length out
+pub next-within : (text out : List ℕ) (at : ℕ) → at ≤ length out → put text out at .next ≤ length out
 unfolding put
 next-within text out at h =
     if-cases (λ (o : Outcome). o .next ≤ length out) (leb (at + length text) (length out)) _ _

@@ -42,7 +42,7 @@ pub fn put_hex(n: u64, digits: usize, out: &mut [u8], at: usize) -> usize
 }
 
 // Whether `n` bytes fit from place `at` on into a buffer of `len`.
-pub fn has_room(n: usize, len: usize, at: usize) -> bool
+pub(crate) fn has_room(n: usize, len: usize, at: usize) -> bool
     ensures { λ r. ⌜ r ≡ leb (at + n) len ⌝ }
 {
     if len < at {

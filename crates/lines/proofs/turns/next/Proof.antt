@@ -1,0 +1,36 @@
+-- `lines::next` meets its contract. Assumes nothing.
+use Prim.Native.Nat.{ℕ, _<_, _≤_}
+use mathlib.Core.List.{List}
+use mathlib.Core.Path.{_≡_, ap, _∙_}
+use borrow.Author.Needs.{needs}
+use borrow.Author.Tests.{lt-ltb, le-ltb}
+use Rattle.lines.specs.Reader.{Outcome, taken}
+use Rattle.lines.specs.Turns.{Next, writes, turnOf, nextTurn}
+use Rattle.lines.specs.declared.reader.Taken.{Taken}
+use Rattle.lines.specs.declared.turns.State.{State}
+use Rattle.lines.specs.declared.turns.Turn.{Turn}
+use Rattle.lines.proofs.turns.next.Statement.{statement}
+use Rattle.lines.proofs.turns.next.Tie as tie
+
+module _ (s : State) (most : ℕ) (input : List ℕ) (turn : Turn) where
+  no-room : most < s .waiting → turn ≡ writes (s .reader) (s .waiting) → record { turn = turn; input = input } ≡ nextTurn s most input
+  unfolding nextTurn
+  no-room h e = rw (e, lt-ltb _ _ h)
+
+  by-reader : (t : Taken) (last : List ℕ) → s .waiting ≤ most → record { answer = t; buffer = last } ≡ taken (s .reader) input → turn ≡ turnOf s t →
+      record { turn = turn; input = last } ≡ nextTurn s most input
+  unfolding nextTurn
+  by-reader t last h e f = rw (f, le-ltb _ _ h) (ap (λ (o : Outcome). record { turn = turnOf s (o .answer); input = o .buffer }) e)
+
+ruleset laws = (no-room, by-reader, needs)
+
+pub next-spec : {M : Type 1} → statement M
+next-spec =
+    tie.close
+    (tie.spec
+    (λ c κs. search laws)  -- write-requires
+    (λ c. search laws)  -- returns
+    (λ c κs. search laws)  -- take-requires
+    (λ c κs. search laws)  -- turn-of-requires
+    (λ c. search laws)  -- same-length
+    (λ c. search laws))  -- returns-2

@@ -1,0 +1,76 @@
+-- What a program that answers lines does next, and what it has written when it reads on or ends. `nextTurn` is what `next` promises; `stepOf`
+-- is a program's turn, with the answer that it puts; `after` lets a program run on a text. proofs/Answers says what it then writes.
+use Prim.Native.Nat.{ℕ, zero, suc, _+_, _-_, min}
+use mathlib.Core.Bool.{true, false}
+use mathlib.Core.List.{List, [], _∷_, _++_}
+use lib.Dec.{ltb, eqb}
+use lib.ListN.{length, take, drop}
+use Rattle.texts.specs.Put.{put}
+use Rattle.lines.specs.If.{if_then_else_}
+use Rattle.lines.specs.Reader.{freshReader, fedReader, taken}
+use Rattle.lines.specs.declared.reader.Reader.{Reader}
+use Rattle.lines.specs.declared.reader.Taken.{Taken}
+use Rattle.lines.specs.declared.reader.Taken.the-variants as Taken
+use Rattle.lines.specs.declared.turns.State.{State}
+use Rattle.lines.specs.declared.turns.Turn.{Turn}
+use Rattle.lines.specs.declared.turns.Turn.the-variants.{Line, Write, Read, End}
+
+-- ---- a state
+
+-- nothing is read, and nothing waits
+abbrev pub begun : State
+begun = record { reader = freshReader; waiting = 0 }
+
+abbrev pub fedState : State → ℕ → State
+fedState s got = record { reader = fedReader (s .reader) got; waiting = s .waiting }
+
+abbrev pub answeredState : State → ℕ → State
+answeredState s end = record { reader = s .reader; waiting = end }
+
+-- ---- the next turn
+
+-- all that waits is written
+abbrev pub writes : Reader → ℕ → Turn
+writes r waiting = Write waiting (record { reader = r; waiting = 0 })
+
+-- a line that is held is answered; where there is none, what waits is written before anything is read, and before the end
+abbrev pub turnOf : State → Taken → Turn
+turnOf s (Taken.Line from to r) = Line from to (record { reader = r; waiting = s .waiting })
+turnOf s (Taken.More at r) = if ltb 0 (s .waiting) then writes r (s .waiting) else Read at (record { reader = r; waiting = 0 })
+turnOf s Taken.End = if ltb 0 (s .waiting) then writes (s .reader) (s .waiting) else End
+
+-- a turn, with what the input's buffer then holds
+pub record Next : Type 0 where
+  pub turn : Turn
+  pub input : List ℕ
+
+-- no answer is put behind more than `most` bytes: they are written first
+unfoldable pub nextTurn : State → ℕ → List ℕ → Next
+nextTurn s most input =
+    if ltb most (s .waiting) then
+    record { turn = writes (s .reader) (s .waiting); input = input }
+    else
+    record { turn = turnOf s (taken (s .reader) input .answer); input = taken (s .reader) input .buffer }
+
+-- ---- a program's step: the next turn, and the answer to its line, if it is one, in the output
+
+pub record Step : Type 0 where
+  pub turn : Turn
+  pub input : List ℕ
+  pub output : List ℕ
+
+-- an answer is a line of its own
+abbrev pub line : List ℕ → List ℕ
+line answer = answer ++ (10 ∷ [])
+
+module _ (answer : List ℕ → List ℕ) where
+  abbrev pub stepped : Turn → List ℕ → List ℕ → Step
+  stepped (Line from to s) input output =
+      let reply = put (line (answer (take (to - from) (drop from input)))) output (s .waiting) in
+      record { turn = Line from to (answeredState s (reply .next)); input = input; output = reply .out }
+  stepped (Write bytes s) input output = record { turn = Write bytes s; input = input; output = output }
+  stepped (Read at s) input output = record { turn = Read at s; input = input; output = output }
+  stepped End input output = record { turn = End; input = input; output = output }
+
+  unfoldable pub stepOf : State → ℕ → List ℕ → List ℕ → Step
+  stepOf s most input output = let n = nextTurn s most input in stepped (n .turn) (n .input) output
