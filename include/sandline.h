@@ -17,6 +17,9 @@
 //         sandline_simplify(walked, 2 * n, true, kept, 8192, &n) == SANDLINE_DONE)
 //         draw(kept, n); // kept[0], kept[1] is the first point, kept[2 * n - 2], kept[2 * n - 1] the last
 //
+// It is one outline: a hole, and a bank that does not touch this one, is not walked from the same start. Where the walk
+// answers 9, pixels touch only diagonally somewhere: "Outlines" below says what to do.
+//
 // WHAT IT IS ALL MADE OF
 //
 // Units are pixels, x to the right and y down. A pixel's top left corner has its column and row as x and y.
@@ -89,7 +92,7 @@ enum sandline_number {
     SANDLINE_BAD_FLAGS = 6,     // too many flags or too few, or one that is not 0 or 1
     SANDLINE_BAD_SETTINGS = 7,  // a ratio, length or pair out of range or NaN
     SANDLINE_NO_WAY = 8,        // no way on from the start of a walk, or a chart without a set pixel
-    SANDLINE_STUCK = 9,         // after some run a walk has over 1,000,000 steps
+    SANDLINE_STUCK = 9,         // after some run a walk has over 1,000,000 steps: it does not come back to its start
     SANDLINE_NO_ROOM = 10,      // a lent buffer is too short
     SANDLINE_BAD_FRAME = 11     // only in the answers of sandline_answer: no frame
 };
@@ -117,9 +120,23 @@ uint8_t sandline_first_start(size_t width, size_t height, const uint8_t *pixels,
 // until one ends on the start. At a fork the walk tries up, right, down, left if clockwise, else left, down,
 // right, up. An outline may have over 4,096 points; other calls then refuse it.
 //
+// A walk follows one outline. A hole, and a bank that does not touch this one, needs a walk and a start of its own.
+//
+// 9 says that a walk has not come back to its start. There are two reasons, each with its remedy:
+// - The start lies in the middle of a straight edge, where no run ends. Start where the outline turns.
+// - Pixels touch only diagonally, so that outlines meet in a point and the walk goes on along another one. The
+//   smallest chart that answers 9 from its first start is
+//       #.#
+//       .#.
+//   and of the 673 charts up to 3 by 3 that are not blank 28 do. So before the walk, wherever of the four pixels around
+//   a point only two are set that lie across from each other, set the other two or clear these, until there is no such
+//   point left: of the charts up to 4 by 4 without one, none answers 9 from its first start. Or start elsewhere (each
+//   of the 28 has a start that is answered), or walk the other way round (24 of them are answered so); such a walk may
+//   go around a part only, or along an edge twice.
+//
 // Room: 2 elements for each point of the outline.
 // Refuses: a bad chart (1), x or y beyond 16,383 (3), a start whose four pixels are alike (8), over 1,000,000 steps
-// after some run (9), which is how a walk ends that never comes back to its start, no room (10).
+// after some run (9), no room (10).
 // Stack of sandline_walk: 384 bytes.
 uint8_t sandline_walk(size_t width, size_t height, const uint8_t *pixels, size_t bytes, int32_t x, int32_t y,
                       bool clockwise, int32_t *out, size_t room, size_t *count);

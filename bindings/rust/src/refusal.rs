@@ -22,7 +22,8 @@ pub enum Refusal {
     BadSettings = 7,
     /// There is no way on from the start of a walk, or no pixel of a chart is set.
     NoWay = 8,
-    /// After some run a walk has over 1,000,000 steps.
+    /// After some run a walk has over 1,000,000 steps: it does not come back to its start. See
+    /// [`Chart::walk`](crate::Chart::walk).
     Stuck = 9,
     /// A lent slice is too short.
     NoRoom = 10,
