@@ -1,0 +1,81 @@
+# What the scripts of the repository share; they read it before they do anything, each with its own arguments.
+#
+# The comment at the head of a script is its usage. The lines above its first empty one say what the script does and how
+# it is called; those below, what else there is to know. `--help` or `-h` prints it all, and the script ends with 0.
+
+top=$(cd "$(dirname "$0")/.." && pwd)
+script=$(basename "$(cd "$(dirname "$0")" && pwd)")/$(basename "$0")
+
+for word in "$@"; do
+    case $word in
+    --help | -h)
+        sed -n '2,$ { /^#/!q; s/^# \{0,1\}//p; }' "$0"
+        exit 0
+        ;;
+    esac
+done
+
+# Ends with 2: something is not there that the script needs.
+lacks() { # WHAT
+    echo "$script: $*" >&2
+    exit 2
+}
+
+# Ends with 2: the script was called with wrong arguments. Says how it is called.
+wrong() { # WHAT
+    echo "$script: $*" >&2
+    sed -n '2,$ { /^# /!q; s/^# //p; }' "$0" >&2
+    exit 2
+}
+
+# Ends unless there are so many arguments, with no option among them.
+arguments() { # LEAST MOST ARGUMENT..
+    local least=$1 most=$2 word
+    shift 2
+    for word in "$@"; do
+        case $word in -*) wrong "no option $word" ;; esac
+    done
+    [ $# -ge "$least" ] || wrong "an argument is missing"
+    [ $# -le "$most" ] || wrong "an argument too many"
+}
+
+# Ends unless each of these can be run.
+need() { # PROGRAM..
+    local program
+    for program in "$@"; do
+        command -v "$program" >/dev/null || lacks "no $program here"
+    done
+}
+
+# The toolchain: $kit is its folder, $own what of it is for the processor at hand.
+need_kit() {
+    command -v rt >/dev/null || lacks "no rt here, the command of the Rattle toolchain"
+    kit=${RATTLE_HOME:-$(dirname "$(dirname "$(readlink -f "$(command -v rt)")")")}
+    own=$kit/on/$(uname -m)
+    [ -d "$own" ] || lacks "no toolchain for $(uname -m) in $kit: set RATTLE_HOME to its folder"
+}
+
+# Ends unless this is a program of ours.
+need_program() { # NAME
+    [ -f "$top/crates/$1/src/main.rt" ] && return
+    wrong "no program '$1'; there are$(cd "$top/crates" && printf ' %s' */src/main.rt | sed 's|/src/main\.rt||g')"
+}
+
+# Ends unless this is a program of ours that `rt check` has proved and linked.
+need_proved() { # NAME
+    need_program "$1"
+    [ -x "$top/target/bin/$1" ] || lacks "$1 is not proved yet: run rt check $1"
+}
+
+# Ends unless the oracle has cases of this name.
+need_subject() { # NAME
+    [ -n "$1" ] && [ -f "$top/oracle/src/$1/fixed.rs" ] && return
+    wrong "no cases '$1'; there are$(cd "$top/oracle/src" && printf ' %s' */fixed.rs | sed 's|/fixed\.rs||g')"
+}
+
+# Ends unless the word is a whole number.
+need_number() { # WHAT WORD
+    case $2 in
+    '' | *[!0-9]*) wrong "$1: '$2' is no whole number" ;;
+    esac
+}
