@@ -3,6 +3,10 @@
 # The comment at the head of a script is its usage. The lines above its first empty one say what the script does and how
 # it is called; those below, what else there is to know. `--help` or `-h` prints it all, and the script ends with 0.
 
+# Text is bytes, for whichever awk, sed, sort and grep are there, and whatever language the caller works in. (Where awk is
+# gawk and letters are UTF-8, `rt` itself prints nothing of what the crates say.)
+export LC_ALL=C
+
 top=$(cd "$(dirname "$0")/.." && pwd)
 script=$(basename "$(cd "$(dirname "$0")" && pwd)")/$(basename "$0")
 
