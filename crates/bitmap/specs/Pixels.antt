@@ -13,7 +13,7 @@ rowBytes width = (width + 7) / 8
 
 -- "width and height 1 to 512"
 unfoldable pub side : ℕ → Bool
-side length = leb 1 length && leb length 512
+side size = leb 1 size && leb size 512
 
 -- "chart size .. out of range, or pixel slice too short"
 unfoldable pub badChart : Chart → List ℕ → Bool

@@ -21,10 +21,11 @@ pub fn bad_chart(chart: Chart, pixels: &[u8]) -> bool
     pixels.len() < all_bytes(chart)
 }
 
-fn side(length: usize) -> bool
-    ensures { λ r. ⌜ r ≡ side length ⌝ }
+// Whether a chart may be so wide, or so high.
+fn side(size: usize) -> bool
+    ensures { λ r. ⌜ r ≡ side size ⌝ }
 {
-    1 <= length && length <= LONGEST
+    1 <= size && size <= LONGEST
 }
 
 // How many bytes a chart takes.
