@@ -83,55 +83,55 @@ module _ (c : Chart) (pixels : List ℕ) (y b : ℕ) (bytes : b ≡ rowBytes (c 
       rw (bytes, p, q)
 
   -- the first k pixels of byte i
-  pub one-byte : (k : ℕ) → k ≤ 8 → rowArea c pixels y (i * 8 + k) ≡ rowArea c pixels y (i * 8) + setBits k (getD pixels (y * b + i) 0 / 2 ^ (8 - k))
+  pub one-byte : (k : ℕ) → k ≤ 8 → rowArea c pixels (i * 8 + k) y ≡ rowArea c pixels (i * 8) y + setBits k (getD pixels (y * b + i) 0 / 2 ^ (8 - k))
   unfolding rowArea setBits
-  one-byte zero h = ap (rowArea c pixels y) (add-zero (i * 8)) ∙ sym (add-zero (rowArea c pixels y (i * 8)))
+  one-byte zero h = ap (λ (n : ℕ). rowArea c pixels n y) (add-zero (i * 8)) ∙ sym (add-zero (rowArea c pixels (i * 8) y))
   one-byte (suc k) h =
       let n = getD pixels (y * b + i) 0 in
       let z : i * 8 + suc k ≡ suc (i * 8 + k) = omega arith in
       let e : 7 - k % 8 ≡ 8 - suc k = omega arith in
-      let r : rowArea c pixels y (i * 8 + suc k) ≡ rowArea c pixels y (i * 8 + k) + one (cell c pixels (i * 8 + k) y) = ap (rowArea c pixels y) z in
+      let r : rowArea c pixels (i * 8 + suc k) y ≡ rowArea c pixels (i * 8 + k) y + one (cell c pixels (i * 8 + k) y) = ap (λ (n : ℕ). rowArea c pixels n y) z in
       let a : one (cell c pixels (i * 8 + k) y) ≡ n / 2 ^ (8 - suc k) % 2 = ap one (cell-byte k (omega arith)) ∙ digit (n / 2 ^ (7 - k % 8)) ∙ ap (λ (m : ℕ). n / 2 ^ m % 2) e in
       omega (arith, r, a, one-byte k (omega arith), setBits-next 8 k n (omega arith))
 
 -- ---- how many may be set
 
 module _ (c : Chart) (pixels : List ℕ) where
-  pub row-le : (y n : ℕ) → rowArea c pixels y n ≤ n
+  pub row-le : (n y : ℕ) → rowArea c pixels n y ≤ n
   unfolding rowArea
-  row-le y zero = le-refl 0
-  row-le y (suc n) = omega (arith, row-le y n, one-le (cell c pixels n y))
+  row-le zero y = le-refl 0
+  row-le (suc n) y = omega (arith, row-le n y, one-le (cell c pixels n y))
 
   pub rows-le : (n : ℕ) → rowsArea c pixels n ≤ n * c .width
   unfolding rowsArea
   rows-le zero = omega arith
-  rows-le (suc n) = omega (arith, rows-le n, row-le n (c .width), suc-mul n (c .width))
+  rows-le (suc n) = omega (arith, rows-le n, row-le (c .width) n, suc-mul n (c .width))
 
 -- ---- the loop over a row's whole bytes: i of them are counted
 
-pub none-counted : (c : Chart) (pixels : List ℕ) (y : ℕ) → 0 ≡ rowArea c pixels y 0
+pub none-counted : (c : Chart) (pixels : List ℕ) (y : ℕ) → 0 ≡ rowArea c pixels 0 y
 unfolding rowArea
 none-counted c pixels y = refl
 
-module _ (c : Chart) (pixels : List ℕ) (y i set : ℕ) (counted : set ≡ rowArea c pixels y (i * 8)) where
+module _ (c : Chart) (pixels : List ℕ) (y i set : ℕ) (counted : set ≡ rowArea c pixels (i * 8) y) where
   pub sum-fits : (n o : ℕ) → i ≤ c .width / 8 → c .width ≤ 512 → o ≡ setBits 8 n → Fits w64 (set + o)
-  sum-fits n o h w e = record { fits = omega (arith, row-le c pixels y (i * 8), setBits-le 8 n) }
+  sum-fits n o h w e = record { fits = omega (arith, row-le c pixels (i * 8) y, setBits-le 8 n) }
 
   pub last-sum-fits : (n o : ℕ) → i ≤ c .width / 8 → c .width ≤ 512 → o ≡ setBits (c .width % 8) n → Fits w64 (set + o)
-  last-sum-fits n o h w e = record { fits = omega (arith, row-le c pixels y (i * 8), setBits-le (c .width % 8) n) }
+  last-sum-fits n o h w e = record { fits = omega (arith, row-le c pixels (i * 8) y, setBits-le (c .width % 8) n) }
 
-  pub counted-more : (b o : ℕ) → b ≡ rowBytes (c .width) → o ≡ setBits 8 (getD pixels (y * b + i) 0) → set + o ≡ rowArea c pixels y ((i + 1) * 8)
+  pub counted-more : (b o : ℕ) → b ≡ rowBytes (c .width) → o ≡ setBits 8 (getD pixels (y * b + i) 0) → set + o ≡ rowArea c pixels ((i + 1) * 8) y
   counted-more b o e f =
       let z : (i + 1) * 8 ≡ i * 8 + 8 = omega arith in
       let d : getD pixels (y * b + i) 0 / 2 ^ (8 - 8) ≡ getD pixels (y * b + i) 0 = omega arith in
       rw (z, one-byte c pixels y b e i 8 (le-refl 8), d, counted, f)
 
-  pub all-whole : i ≤ c .width / 8 → c .width / 8 ≤ i → c .width % 8 ≡ 0 → set ≡ rowArea c pixels y (c .width)
-  all-whole h k e = counted ∙ ap (rowArea c pixels y) (omega arith)
+  pub all-whole : i ≤ c .width / 8 → c .width / 8 ≤ i → c .width % 8 ≡ 0 → set ≡ rowArea c pixels (c .width) y
+  all-whole h k e = counted ∙ ap (λ (n : ℕ). rowArea c pixels n y) (omega arith)
 
   pub with-the-rest : (b o : ℕ) → b ≡ rowBytes (c .width) → i ≤ c .width / 8 → c .width / 8 ≤ i →
-      o ≡ setBits (c .width % 8) (getD pixels (y * b + c .width / 8) 0 / 2 ^ (8 - c .width % 8)) → set + o ≡ rowArea c pixels y (c .width)
+      o ≡ setBits (c .width % 8) (getD pixels (y * b + c .width / 8) 0 / 2 ^ (8 - c .width % 8)) → set + o ≡ rowArea c pixels (c .width) y
   with-the-rest b o e h k f =
       let j : i ≡ c .width / 8 = omega arith in
       let z : c .width ≡ c .width / 8 * 8 + c .width % 8 = omega arith in
-      rw (counted, f, j) (sym (one-byte c pixels y b e (c .width / 8) (c .width % 8) (omega arith)) ∙ ap (rowArea c pixels y) (sym z))
+      rw (counted, f, j) (sym (one-byte c pixels y b e (c .width / 8) (c .width % 8) (omega arith)) ∙ ap (λ (n : ℕ). rowArea c pixels n y) (sym z))

@@ -13,14 +13,14 @@ use Rattle.bitmap.specs.declared.Cells.the-variants.{Set, Refused}
 -- the set ones among the first n pixels of row y
 unfoldable pub rowArea : Chart → List ℕ → ℕ → ℕ → ℕ
 unfolding cell
-rowArea c pixels y zero = 0
-rowArea c pixels y (suc n) = rowArea c pixels y n + one (cell c pixels n y)
+rowArea c pixels zero y = 0
+rowArea c pixels (suc n) y = rowArea c pixels n y + one (cell c pixels n y)
 
 -- the set pixels of the first n rows
 unfoldable pub rowsArea : Chart → List ℕ → ℕ → ℕ
 unfolding rowArea
 rowsArea c pixels zero = 0
-rowsArea c pixels (suc n) = rowsArea c pixels n + rowArea c pixels n (c .width)
+rowsArea c pixels (suc n) = rowsArea c pixels n + rowArea c pixels (c .width) n
 
 unfoldable pub areaAnswer : Option Refusal → Chart → List ℕ → Cells
 unfolding rowsArea

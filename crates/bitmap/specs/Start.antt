@@ -22,12 +22,12 @@ pointIf false p = none
 -- the first set one among n pixels of row y, from column x on
 unfoldable pub firstInRow : Chart → List ℕ → ℕ → ℕ → ℕ → Option PointI32
 unfolding cell
-firstInRow c pixels y x zero = none
-firstInRow c pixels y x (suc n) = elim (cell c pixels x y) [ true ↦ some (record { x = pos x; y = pos y }) | false ↦ firstInRow c pixels y (suc x) n ]
+firstInRow c pixels x y zero = none
+firstInRow c pixels x y (suc n) = elim (cell c pixels x y) [ true ↦ some (record { x = pos x; y = pos y }) | false ↦ firstInRow c pixels (suc x) y n ]
 
 -- the point in column x of row y, or none where x is past the last column
 unfoldable pub columnOf : Chart → ℕ → ℕ → Option PointI32
-columnOf c y x = pointIf (ltb x (c .width)) (record { x = pos x; y = pos y })
+columnOf c x y = pointIf (ltb x (c .width)) (record { x = pos x; y = pos y })
 
 -- r is the column of a byte's first set pixel, or 8 where it has none
 pub record FirstBit (byte r : ℕ) : Type 0 where
@@ -44,7 +44,7 @@ orElse none later = later
 unfoldable pub firstInRows : Chart → List ℕ → ℕ → ℕ → Option PointI32
 unfolding firstInRow
 firstInRows c pixels y zero = none
-firstInRows c pixels y (suc n) = orElse (firstInRow c pixels y 0 (c .width)) (firstInRows c pixels (suc y) n)
+firstInRows c pixels y (suc n) = orElse (firstInRow c pixels 0 y (c .width)) (firstInRows c pixels (suc y) n)
 
 -- "a blank chart gives NoWay"
 abbrev pub startOr : Option PointI32 → Start

@@ -44,7 +44,7 @@ fn corner(x: usize, y: usize) -> Start
 // The column of a row's first set pixel, or `width` or more where none is set.
 fn first_in_row(chart: Chart, pixels: &[u8], y: usize) -> usize
     requires { ⌜ Good chart (now pixels) × (y < chart .height) ⌝ }
-    ensures { λ r. ⌜ columnOf chart y r ≡ firstInRow chart (now (pixels .entry)) y 0 (chart .width) ⌝ }
+    ensures { λ r. ⌜ columnOf chart r y ≡ firstInRow chart (now (pixels .entry)) 0 y (chart .width) ⌝ }
 {
     let bytes = row_bytes(chart.width);
     let from = y * bytes;

@@ -29,7 +29,7 @@ pub fn area(chart: Chart, pixels: &[u8]) -> Cells
 // How many pixels of row `y` are set.
 fn row_area(chart: Chart, pixels: &[u8], y: usize) -> usize
     requires { ⌜ Good chart (now pixels) × (y < chart .height) ⌝ }
-    ensures { λ r. ⌜ r ≡ rowArea chart (now (pixels .entry)) y (chart .width) ⌝ }
+    ensures { λ r. ⌜ r ≡ rowArea chart (now (pixels .entry)) (chart .width) y ⌝ }
 {
     let from = y * row_bytes(chart.width);
     let whole = chart.width / 8;

@@ -9,7 +9,7 @@ use Rattle.chart.proofs.begin.first_in_row.Statement.{statement}
 use Rattle.chart.proofs.begin.first_in_row.Tie as tie
 
 abbrev Inv-loop : tie.InvT-loop
-Inv-loop chart pixels y bytes from i₀ i = (i ≤ bytes) × (firstInRow chart pixels y 0 (chart .width) ≡ firstInRow chart pixels y (i * 8) (chart .width - i * 8))
+Inv-loop chart pixels y bytes from i₀ i = (i ≤ bytes) × (firstInRow chart pixels 0 y (chart .width) ≡ firstInRow chart pixels (i * 8) y (chart .width - i * 8))
 
 abbrev μ-loop : tie.MeasureT-loop
 μ-loop chart pixels y bytes from i₀ i = bytes - i

@@ -29,7 +29,7 @@ module _ (c : Chart) (pixels : List ℕ) where
   no-row-yet = let e : c .height ≡ c .height - 0 = omega arith in ap (firstInRows c pixels 0) e
 
   module _ (y : ℕ) (so-far : firstInRows c pixels 0 (c .height) ≡ firstInRows c pixels y (c .height - y)) where
-    module _ (x : ℕ) (row : columnOf c y x ≡ firstInRow c pixels y 0 (c .width)) (h : y < c .height) where
+    module _ (x : ℕ) (row : columnOf c x y ≡ firstInRow c pixels 0 y (c .width)) (h : y < c .height) where
       blank-row : c .width ≤ x → firstInRows c pixels 0 (c .height) ≡ firstInRows c pixels (y + 1) (c .height - (y + 1))
       unfolding firstInRows columnOf
       blank-row k =

@@ -30,15 +30,15 @@ module _ (c : Chart) (pixels : List ℕ) where
   no-row-yet = refl
 
   module _ (set y : ℕ) (so-far : set ≡ rowsArea c pixels y) where
-    one-row-more : (n : ℕ) → n ≡ rowArea c pixels y (c .width) → set + n ≡ rowsArea c pixels (y + 1)
+    one-row-more : (n : ℕ) → n ≡ rowArea c pixels (c .width) y → set + n ≡ rowsArea c pixels (y + 1)
     unfolding rowsArea
     one-row-more n e = rw (add-one, so-far, e)
 
-    sum-fits : (n : ℕ) → n ≡ rowArea c pixels y (c .width) → Good c pixels → y < c .height → Fits w64 (set + n)
+    sum-fits : (n : ℕ) → n ≡ rowArea c pixels (c .width) y → Good c pixels → y < c .height → Fits w64 (set + n)
     sum-fits n e g h =
         let k : y ≤ 512 = omega (arith, g .high) in
         let l : y * c .width ≤ 512 * 512 = mul-le-mul k (g .wide) in
-        record { fits = omega (arith, rows-le c pixels y, row-le c pixels y (c .width), g .wide) }
+        record { fits = omega (arith, rows-le c pixels y, row-le c pixels (c .width) y, g .wide) }
 
     module _ (r : Bool) (says : r ≡ badChart c pixels) where
       all-rows : r ≡ false → y ≤ c .height → c .height ≤ y → Set set ≡ areaOf c pixels

@@ -8,7 +8,7 @@ use Rattle.chart.proofs.counting.row_area.Statement.{statement}
 use Rattle.chart.proofs.counting.row_area.Tie as tie
 
 abbrev Inv-loop : tie.InvT-loop
-Inv-loop chart pixels y from whole set₀ i₀ set i = (i ≤ whole) × (set ≡ rowArea chart pixels y (i * 8))
+Inv-loop chart pixels y from whole set₀ i₀ set i = (i ≤ whole) × (set ≡ rowArea chart pixels (i * 8) y)
 
 abbrev μ-loop : tie.MeasureT-loop
 μ-loop chart pixels y from whole set₀ i₀ set i = whole - i
