@@ -7,7 +7,6 @@ use mathlib.Core.Logic.{_⊎_, inl, inr, ⊎-elim}
 use mathlib.Core.Path.{_≡_, refl, sym, _∙_}
 use native.Mathlib.Omega.{arith}
 use lib.IntN.{ℤ, pos, negsuc, _-ℤ_}
-use lib.Ieee.{unlike}
 use lib.Signed.{leZ, ltZ}
 use borrow.Author.Tests.{leb-false}
 use Rattle.laws.specs.Ring.{P, N, add-pn, sub-pn, one-zero-pn}
@@ -16,7 +15,7 @@ use Rattle.bitmap.specs.Pixels.{pixelAt, badChart}
 use Rattle.bitmap.specs.declared.Chart.{Chart}
 use Rattle.bitmap.proofs.Outside.{left-of, right-of, above as above-all, below as below-all}
 use Rattle.bitmap.proofs.Rows.{good}
-use Rattle.walks.specs.Walk.{Way, up, right, down, left, ahead, exit}
+use Rattle.walks.specs.Walk.{Way, up, right, down, left, ahead, differ, exit}
 use Rattle.walks.proofs.Lattice.{opposite}
 use Rattle.walks.proofs.Exits.{back-exit}
 
@@ -58,7 +57,7 @@ nearer p left h k = omega (arith, sub-pn (p .x) (pos 1))
 
 -- ---- pixels that are set
 
-one-is : (a b : Bool) → unlike a b ≡ true → (a ≡ true) ⊎ (b ≡ true)
+one-is : (a b : Bool) → differ a b ≡ true → (a ≡ true) ⊎ (b ≡ true)
 one-is true b e = inl refl
 one-is false true e = inr refl
 one-is false false e = absurd (true≢false (sym e))

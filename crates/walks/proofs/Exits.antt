@@ -7,14 +7,13 @@ use mathlib.Core.Option.{Option, some, none}
 use mathlib.Core.Path.{_≡_, refl, sym, ap, ap₂, _∙_}
 use lib.Dec.{T, eqb}
 use lib.IntN.{ℤ, pos, _-ℤ_, +ℤ-negℤ-cancel}
-use lib.Ieee.{unlike}
 use lib.Ieee.Bits.{is-true}
 use lib.Ieee.Fits.{and-l, and-r}
 use borrow.Author.Tests.{eqb-true}
 use Rattle.point.specs.declared.PointI32.{PointI32}
 use Rattle.bitmap.specs.Pixels.{pixelAt, aroundOf, one}
 use Rattle.bitmap.specs.declared.Chart.{Chart}
-use Rattle.walks.specs.Walk.{Pixels, Way, up, right, down, left, ahead, exit, order, sameWay, first}
+use Rattle.walks.specs.Walk.{Pixels, Way, up, right, down, left, ahead, differ, exit, order, sameWay, first}
 use Rattle.walks.specs.Course.{exitIn, onward, firstExit}
 use Rattle.walks.proofs.Tests.{at-B, allF, at-F, same, same-eq, implies, implied}
 use Rattle.walks.proofs.Lattice.{opposite}
@@ -29,10 +28,10 @@ wayNo left = 3
 -- ---- of four pixels: top left, top right, bottom left, bottom right
 
 abbrev exitOf : Bool → Bool → Bool → Bool → Way → Bool
-exitOf a b c e up = unlike a b
-exitOf a b c e right = unlike e b
-exitOf a b c e down = unlike c e
-exitOf a b c e left = unlike c a
+exitOf a b c e up = differ a b
+exitOf a b c e right = differ e b
+exitOf a b c e down = differ c e
+exitOf a b c e left = differ c a
 
 abbrev number : Bool → Bool → Bool → Bool → ℕ
 number a b c e = 8 * one a + 4 * one b + 2 * one c + one e
@@ -91,8 +90,8 @@ module _ (set : Pixels) (p : PointI32) where
   -- the edge just walked is an exit back: it lies between the same two pixels
   pub back-exit : (d : Way) → exit set (ahead p d) (opposite d) ≡ exit set p d
   back-exit up = refl
-  back-exit right = ap (λ (x : ℤ). unlike (set x (p .y)) (set x (p .y -ℤ pos 1))) (+ℤ-negℤ-cancel (p .x) (pos 1))
-  back-exit down = ap (λ (y : ℤ). unlike (set (p .x -ℤ pos 1) y) (set (p .x) y)) (+ℤ-negℤ-cancel (p .y) (pos 1))
+  back-exit right = ap (λ (x : ℤ). differ (set x (p .y)) (set x (p .y -ℤ pos 1))) (+ℤ-negℤ-cancel (p .x) (pos 1))
+  back-exit down = ap (λ (y : ℤ). differ (set (p .x -ℤ pos 1) y) (set (p .x) y)) (+ℤ-negℤ-cancel (p .y) (pos 1))
   back-exit left = refl
 
   abbrev around : {A : Bool → Bool → Bool → Bool → Type 0} → ((a b c e : Bool) → A a b c e) → A (set (p .x -ℤ pos 1) (p .y -ℤ pos 1)) (set (p .x) (p .y -ℤ pos 1)) (set (p .x -ℤ pos 1) (p .y)) (set (p .x) (p .y))

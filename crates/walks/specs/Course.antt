@@ -7,14 +7,13 @@ use mathlib.Core.Option.{Option, some, none}
 use mathlib.Core.Path.{_≡_}
 use lib.Dec.{ltb, eqb}
 use lib.IntN.{ℤ, pos, negsuc, _+ℤ_}
-use lib.Ieee.{unlike}
 use lib.ListN.{length, drop}
 use Rattle.point.specs.Points.{flat}
 use Rattle.laws.specs.If.{if_then_else_}
 use Rattle.point.specs.declared.PointI32.{PointI32}
 use Rattle.bitmap.specs.Pixels.{aroundOf}
 use Rattle.bitmap.specs.declared.Chart.{Chart}
-use Rattle.walks.specs.Walk.{Walk, closed, no-way, stuck, after, samePoint}
+use Rattle.walks.specs.Walk.{Walk, closed, no-way, stuck, after, samePoint, differ}
 use Rattle.walks.specs.declared.Place.{Place}
 
 -- ---- directions are 0 up, 1 right, 2 down, 3 left, and m is what lies around a point, as `chart::around` numbers it
@@ -32,10 +31,10 @@ has m weight = eqb (m / weight % 2) 1
 -- the two side pixels differ
 unfoldable pub exitIn : ℕ → ℕ → Bool
 exitIn m way =
-    if eqb way 0 then unlike (has m 8) (has m 4) else
-    if eqb way 1 then unlike (has m 1) (has m 4) else
-    if eqb way 2 then unlike (has m 2) (has m 1) else
-    unlike (has m 2) (has m 8)
+    if eqb way 0 then differ (has m 8) (has m 4) else
+    if eqb way 1 then differ (has m 1) (has m 4) else
+    if eqb way 2 then differ (has m 2) (has m 1) else
+    differ (has m 2) (has m 8)
 
 abbrev pub order : Bool → List ℕ
 order true = 0 ∷ 1 ∷ 2 ∷ 3 ∷ []

@@ -1,12 +1,11 @@
 -- Document 01, "Walk": the outline of a chart from a start.
 use Prim.Native.Nat.{ℕ, zero, suc, _*_}
-use mathlib.Core.Bool.{Bool, true, false, not, _&&_}
+use mathlib.Core.Bool.{Bool, true, false, not, _&&_, Bool·beq}
 use mathlib.Core.List.{List, [], _∷_, _++_}
 use mathlib.Core.Option.{Option, some, none}
 use lib.Dec.{ltb, eqb}
 use lib.IntN.{ℤ, pos, _+ℤ_, _-ℤ_}
 use lib.Signed.{leZ}
-use lib.Ieee.{unlike}
 use lib.ListN.{length, drop}
 use Rattle.point.specs.Limits.{inRange}
 use Rattle.point.specs.Points.{flat}
@@ -41,12 +40,16 @@ ahead p right = record { x = p .x +ℤ pos 1; y = p .y }
 ahead p down = record { x = p .x; y = p .y +ℤ pos 1 }
 ahead p left = record { x = p .x -ℤ pos 1; y = p .y }
 
+-- one is set and the other is not
+abbrev pub differ : Bool → Bool → Bool
+differ a b = not (Bool·beq a b)
+
 -- "An exit is a direction whose two side pixels differ."
 abbrev pub exit : Pixels → PointI32 → Way → Bool
-exit set p up = unlike (set (p .x -ℤ pos 1) (p .y -ℤ pos 1)) (set (p .x) (p .y -ℤ pos 1))
-exit set p right = unlike (set (p .x) (p .y)) (set (p .x) (p .y -ℤ pos 1))
-exit set p down = unlike (set (p .x -ℤ pos 1) (p .y)) (set (p .x) (p .y))
-exit set p left = unlike (set (p .x -ℤ pos 1) (p .y)) (set (p .x -ℤ pos 1) (p .y -ℤ pos 1))
+exit set p up = differ (set (p .x -ℤ pos 1) (p .y -ℤ pos 1)) (set (p .x) (p .y -ℤ pos 1))
+exit set p right = differ (set (p .x) (p .y)) (set (p .x) (p .y -ℤ pos 1))
+exit set p down = differ (set (p .x -ℤ pos 1) (p .y)) (set (p .x) (p .y))
+exit set p left = differ (set (p .x -ℤ pos 1) (p .y)) (set (p .x -ℤ pos 1) (p .y -ℤ pos 1))
 
 -- ---- which exit is taken
 
