@@ -1,4 +1,4 @@
--- Document 01's number and values of each answer. "A refusal hands out nothing": it has no values, and counts 0.
+-- Document 01's number and values of each answer. "A refusal has count 0", and no values.
 use Prim.Native.Nat.{ℕ}
 use mathlib.Core.List.{List, [], _∷_}
 use lib.IntN.{ℤ}

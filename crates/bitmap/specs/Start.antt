@@ -1,4 +1,4 @@
--- Document 01: "First start: the top left corner of the first set pixel, row by row; a blank chart gives NoWay."
+-- Document 01: "First start (added): the top left corner of the first set pixel, row by row; a blank chart gives NoWay."
 use Prim.Native.Nat.{ℕ, zero, suc, _≤_, _<_}
 use mathlib.Core.Path.{_≡_}
 use mathlib.Core.Bool.{Bool, true, false}

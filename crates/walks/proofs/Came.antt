@@ -113,7 +113,7 @@ pub record Along (set : Pixels) (w : Walker) (d : Way) : Type 0 where
 pub along-stood : (set : Pixels) (p : PointI32) (n : ℕ) (d : Way) → exit set p d ≡ true → Along set (stood p n) d
 along-stood set p n d e = record { came = came-first p n d; edge = e }
 
--- "always a way on": after the step there is another exit, and the walker is about to go along it
+-- there is always a way on: after the step there is another exit, and the walker is about to go along it
 pub along-on : (c : Chart) (pixels : List ℕ) (cw : Bool) (w : Walker) (d : Way) → Along (pixelAt c pixels) w d →
     (k : Way) × (taken (pixelAt c pixels) cw (moved w d) ≡ some k)
     × (wayNo k ≡ onward (aroundOf c pixels (ahead (w .curr) d .x) (ahead (w .curr) d .y)) cw (wayNo d)) × Along (pixelAt c pixels) (moved w d) k

@@ -4,7 +4,7 @@ use Rattle.refusals.specs.Refusals.{refusalNumber}
 use Rattle.walks.specs.declared.Walked.{Walked}
 use Rattle.walks.specs.declared.Walked.the-variants.{Done, NoWay, Stuck, Refused}
 
--- "0 Done", "8 NoWay", "9 Stuck", and a refusal's own number
+-- the table's numbers: Done is 0, NoWay 8, Stuck 9, and a refusal has its own
 abbrev pub walkedNumber : Walked → ℕ
 walkedNumber (Done n) = 0
 walkedNumber NoWay = 8

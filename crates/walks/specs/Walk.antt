@@ -147,7 +147,7 @@ pub record Outcome : Type 0 where
   pub answer : Walked
   pub out : List ℤ
 
--- "NoRoom: output too small". "A walk needs as many places as its outline has points."
+-- NoRoom is "output .. too small": "A walk needs as many places as its outline has points."
 abbrev pub laid : List PointI32 → List ℤ → Bool → Outcome
 laid ps out true = record { answer = Refused NoRoom; out = out }
 laid ps out false = record { answer = Done (length ps); out = flat ps ++ drop (length ps * 2) out }
