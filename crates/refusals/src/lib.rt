@@ -18,9 +18,9 @@ pub enum Refusal {
     BadFlags,
     // A ratio, a length or a pair is out of range or NaN.
     BadSettings,
-    // No direction at the start is an exit.
+    // A blank chart has no first start. (A walk from a start with no exit answers `Walked::NoWay`.)
     NoWay,
-    // A walk goes on past the limit of steps.
+    // Given by no call: a walk of over 1,000,000 steps answers `Walked::Stuck`, of the same number.
     Stuck,
     // A lent buffer is too short.
     NoRoom,
