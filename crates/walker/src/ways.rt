@@ -19,6 +19,7 @@ pub(crate) fn way_in(chart: Chart, pixels: &[u8], start: PointI32, clockwise: bo
     first_exit(chart::around(chart, pixels, start.x, start.y), clockwise)
 }
 
+// The exit taken from the start, by the number of what lies around it.
 fn first_exit(around: u8, clockwise: bool) -> u8
     requires { ⌜ around < 16 ⌝ }
     ensures { λ r. ⌜ r ≡ firstExit around clockwise ⌝ }
@@ -27,6 +28,12 @@ fn first_exit(around: u8, clockwise: bool) -> u8
 }
 
 // The exits taken from the start, four bits for each of the sixteen numbers that `chart::around` gives.
+//
+// Each word was made from `firstExit` of walks/specs/Course: its hexadecimal digit m, the last of them
+// digit 0, is the exit for number m, or 4 where there is none. The proof computes all sixteen. By hand:
+// in number 1 the pixel below on the right alone is set, so that right and down are exits. Clockwise
+// tries 0, 1, 2, 3 and takes right: digit 1 of the first word is 1. Otherwise 3, 2, 1, 0 are tried
+// and down is taken: digit 1 of the second is 2.
 fn first_exits(clockwise: bool) -> u64
     ensures { λ r. ⌜ FirstExits r clockwise ⌝ }
 {
@@ -39,6 +46,12 @@ fn first_exits(clockwise: bool) -> u64
 // The exits taken after a move in direction `way`, two bits for each of the sixteen numbers: the
 // first in order that does not lead back. The move was along an exit, and exits are even in number,
 // so that there is always another; where there could be none the bits are 0.
+//
+// Each word was made from `onward` of walks/specs/Course: its bits 2m and 2m + 1 are the exit for number
+// m, so that a hexadecimal digit has two exits, the one of the lower number in its lower half. The
+// proof computes all sixteen. By hand: in number 3 the two pixels below are set, so that right and left
+// are exits. After a move up neither leads back, and clockwise tries right first: 1. Numbers 2 and
+// 3 share the last digit but one of 0x1d00_0074, which is 7, binary 01 11: number 3 has the 01.
 pub(crate) fn exits_after(way: u8, clockwise: bool) -> u32
     requires { ⌜ way < 4 ⌝ }
     ensures { λ r. ⌜ ExitsAfter r clockwise way ⌝ }
@@ -88,7 +101,7 @@ pub(crate) fn across(way: u8) -> i32
     0
 }
 
-// How far it goes down.
+// How far a step in a direction goes down.
 pub(crate) fn downward(way: u8) -> i32
     ensures { λ r. ⌜ r ≡ downward way ⌝ }
 {
