@@ -46,6 +46,7 @@ fn row_area(chart: Chart, pixels: &[u8], y: usize) -> usize
     set + first_ones(pixels[from + whole], rest)
 }
 
+// How many pixels of a byte are set.
 fn ones(byte: u8) -> usize
     ensures { λ r. ⌜ r ≡ setBits 8 byte ⌝ }
 {

@@ -89,6 +89,7 @@ fn two(chart: Chart, pixels: &[u8], x: i32, y: i32) -> u8
     2 * one(pixel(chart, pixels, x - 1, y)) + one(pixel(chart, pixels, x, y))
 }
 
+// A pixel as a number: 1 where it is set.
 fn one(set: bool) -> u8
     ensures { λ r. ⌜ r ≡ one set ⌝ }
 {

@@ -53,7 +53,7 @@ pub fn pixel(chart: Chart, pixels: &[u8], x: i32, y: i32) -> bool
     pixel_in(chart, pixels, x as usize, y as usize)
 }
 
-// The same by column and row.
+// The pixel in a column and a row that are counted from 0; false outside the chart and past the last byte.
 fn pixel_in(chart: Chart, pixels: &[u8], column: usize, row: usize) -> bool
     requires { ⌜ row < 2147483648 ⌝ }
     ensures { λ r. ⌜ r ≡ pixelAt chart (now (pixels .entry)) (pos column) (pos row) ⌝ }

@@ -53,6 +53,7 @@ pub fn walk(
     Walked::Done(points)
 }
 
+// Whether a coordinate of the start is out of range.
 fn out_of_range(start: PointI32) -> bool
     ensures { λ r. ⌜ r ≡ not (inRange (start .x) && inRange (start .y)) ⌝ }
 {
