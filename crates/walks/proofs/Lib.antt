@@ -13,3 +13,4 @@ pub mod Counting
 pub mod Writing
 pub mod Outcome
 pub mod Claims
+pub mod Padding
