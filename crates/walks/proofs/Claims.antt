@@ -46,20 +46,21 @@ pub data Reached (set : Pixels) (cw : Bool) (start : PointI32) : Walker → Type
   begun : Reached set cw start (atStart start)
   gone : {w : Walker} (d : Way) → Reached set cw start w → taken set cw w ≡ some d → Reached set cw start (moved w d)
 
-same-way : (a b : Way) (o : Option Way) → o ≡ some a → o ≡ some b → a ≡ b
-same-way a b o d e = cc
+-- what is taken is one
+pub taken-one : (a b : Way) (o : Option Way) → o ≡ some a → o ≡ some b → a ≡ b
+taken-one a b o d e = cc
 
 module _ (c : Chart) (pixels : List ℕ) (cw : Bool) (start : PointI32) where
   abbrev set : Pixels
   set = pixelAt c pixels
 
   -- what is taken is an exit, and the walker came as it must
-  reached-along : (w : Walker) (d : Way) → Reached set cw start w → taken set cw w ≡ some d → Along set w d
+  pub reached-along : (w : Walker) (d : Way) → Reached set cw start w → taken set cw w ≡ some d → Along set w d
   reached-along w d begun e =
       along-stood set start 0 d (subst (Begins (exit set start) (firstExit (aroundOf c pixels (start .x) (start .y)) cw)) e (taken-first c pixels cw start) .1)
   reached-along w d (gone {w = v} b r f) e =
       let t = along-on c pixels cw v b (reached-along v b r f) in
-      subst (Along set (moved v b)) (same-way (t .0) d (taken set cw (moved v b)) (t .1) e) (t .3)
+      subst (Along set (moved v b)) (taken-one (t .0) d (taken set cw (moved v b)) (t .1) e) (t .3)
 
   pub always-a-way-on : (w : Walker) (d : Way) → Reached set cw start w → taken set cw w ≡ some d → (e : Way) × (taken set cw (moved w d) ≡ some e)
   always-a-way-on w d r e = let t = along-on c pixels cw w d (reached-along w d r e) in (t .0, t .1)
@@ -143,7 +144,7 @@ begun-other start out (closed ps) h e = laid-other (start ∷ ps) out (ltb (leng
 begun-other start out no-way h e = true≢false (sym h)
 begun-other start out stuck h e = other Stuck refl e
 
-both-in : (a b : Bool) → not (a && b) ≡ false → (a ≡ true) × (b ≡ true)
+pub both-in : (a b : Bool) → not (a && b) ≡ false → (a ≡ true) × (b ≡ true)
 both-in true true e = (refl, refl)
 both-in true false e = absurd (true≢false e)
 both-in false b e = absurd (true≢false e)

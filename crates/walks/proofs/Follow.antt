@@ -38,7 +38,7 @@ judged start q more = elim (ltb 1000000 (q .steps)) as (λ _. Walk) [
   | false ↦ elim (samePoint (point q) start) as (λ _. Walk) [ true ↦ closed (point q ∷ []) | false ↦ after (point q) more ]
 ]
 
-followed : (set : Pixels) (cw : Bool) (start : PointI32) (n : ℕ) (w : Walker) (d : Way) (v : Walker) (e : Way) → run set cw 600 (moved w d) d ≡ ends v e →
+pub followed : (set : Pixels) (cw : Bool) (start : PointI32) (n : ℕ) (w : Walker) (d : Way) (v : Walker) (e : Way) → run set cw 600 (moved w d) d ≡ ends v e →
     follow set cw start (suc n) w d ≡ judged start (placed v e) (follow set cw start n v e)
 unfolding follow
 followed set cw start n w d v e h = ap (λ (o : Run). elim o as (λ _. Walk) [ nowhere ↦ no-way | ends v e ↦ judged start (placed v e) (follow set cw start n v e) ]) h

@@ -14,3 +14,4 @@ pub mod Writing
 pub mod Outcome
 pub mod Claims
 pub mod Padding
+pub mod Stuck

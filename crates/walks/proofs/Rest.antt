@@ -47,7 +47,7 @@ module _ (c : Chart) (pixels : List ℕ) (cw : Bool) (good : badChart c pixels �
         go false e = ap (judged start q) (h (ltb-false 1000000 (q .steps) e))
 
     -- enough is enough: each run has a step
-    pub enough : (m n : ℕ) (p : Place) → OnEdge c pixels p → p .steps ≤ 1000000 → 1000002 ≤ m + p .steps → 1000002 ≤ n + p .steps →
+    pub enough : (m n : ℕ) (p : Place) → OnEdge c pixels p → p .steps ≤ 1000000 → 1000000 < m + p .steps → 1000000 < n + p .steps →
         wentOn c pixels cw start m p ≡ wentOn c pixels cw start n p
     enough zero n p h l a b = absurd (omega arith)
     enough (suc m) zero p h l a b = absurd (omega arith)

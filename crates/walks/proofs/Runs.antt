@@ -33,7 +33,7 @@ placed-moved w left = λ i. record { x = w .curr .x +ℤ negsuc 0; y = sym (+ℤ
 same-number : (d k : Way) → eqb (wayNo k) (wayNo d) ≡ sameWay d k
 same-number d k = same-eq _ _ (at-W2 (λ d k. same (eqb (wayNo k) (wayNo d)) (sameWay d k)) tt d k)
 
-same-way : (d k : Way) → sameWay d k ≡ true → k ≡ d
+pub same-way : (d k : Way) → sameWay d k ≡ true → k ≡ d
 same-way up up e = refl
 same-way up right e = absurd (true≢false (sym e))
 same-way up down e = absurd (true≢false (sym e))
@@ -52,7 +52,7 @@ same-way left down e = absurd (true≢false (sym e))
 same-way left left e = refl
 
 -- one step of a run, by the exit that is found
-walker-step : (set : Pixels) (cw : Bool) (n : ℕ) (w : Walker) (d k : Way) (s : Bool) → taken set cw w ≡ some k → sameWay d k ≡ s →
+pub walker-step : (set : Pixels) (cw : Bool) (n : ℕ) (w : Walker) (d k : Way) (s : Bool) → taken set cw w ≡ some k → sameWay d k ≡ s →
     run set cw (suc n) w d ≡ (elim s as (λ _. Run) [ true ↦ run set cw n (moved w d) d | false ↦ ends w k ])
 unfolding run
 walker-step set cw n w d k s e f =

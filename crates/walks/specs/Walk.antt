@@ -97,7 +97,7 @@ pub data Run : Type 0 where
   nowhere : Run
 
 -- "A run goes on until the exit taken would change direction": what is left of a run in direction d from where w stands.
--- n is more than the steps that are left; no chart has runs of over 512.
+-- n is more than the steps that are left. No chart has runs of over 512, so that any n over 512 gives the same run (`run-fuel-suffices` of proofs/Stuck).
 unfoldable pub run : Pixels → Bool → ℕ → Walker → Way → Run
 unfolding taken
 run set clockwise zero w d = nowhere
@@ -118,7 +118,8 @@ after p no-way = no-way
 after p stuck = stuck
 
 -- What follows where w is about to take the exit d: "its end is the next point"; "The step limit is looked at only after a run, also
--- after the closing one"; "The walk ends when a run ends on the start." n is more than the runs that are left: each has a step.
+-- after the closing one"; "The walk ends when a run ends on the start." n is more than the runs that are left: each has a step, so that any n
+-- over the steps left to the limit gives the same walk (`fuel-suffices` of proofs/Stuck).
 unfoldable pub follow : Pixels → Bool → PointI32 → ℕ → Walker → Way → Walk
 unfolding run
 follow set clockwise start zero w d = stuck
