@@ -15,3 +15,4 @@ pub mod Outcome
 pub mod Claims
 pub mod Padding
 pub mod Stuck
+pub mod TwoPixels

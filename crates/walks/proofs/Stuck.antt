@@ -45,6 +45,9 @@ other-way d e h = go (sameWay d e) refl
     go true p = absurd (h (same-way d e p))
     go false p = p
 
+pub apart : (d e : Way) → sameWay d e ≡ false → e ≡ d → ⊥
+apart d e s p = true≢false (sym (same-itself d) ∙ ap (sameWay d) (sym p) ∙ s)
+
 never-ends : (v : Walker) (e : Way) → nowhere ≡ ends v e → ⊥
 never-ends v e p = let z : _≡_ {A = ℕ} 0 1 = cc in omega arith
 
@@ -70,7 +73,7 @@ module _ (set : Pixels) (cw : Bool) where
           by-way false s h =
               let p = one-end (ends w k) w v k e refl h in
               subst (EndsAt set cw d v e) (sym (p .0))
-              (turns (ap (taken set cw) (sym (p .0)) ∙ t ∙ ap some (p .1)) (λ q. true≢false (sym (same-itself d) ∙ ap (sameWay d) (sym (p .1 ∙ q)) ∙ s)))
+              (turns (ap (taken set cw) (sym (p .0)) ∙ t ∙ ap some (p .1)) (λ q. apart d k s (p .1 ∙ q)))
 
   pub ends-at-run : (w v : Walker) (d e : Way) → EndsAt set cw d v e w → (n : ℕ) × ((m : ℕ) → n ≤ m → run set cw m w d ≡ ends v e)
   ends-at-run w v d e (turns t h) = (1, by)
@@ -112,7 +115,7 @@ module _ (set : Pixels) (cw : Bool) where
     begun-with n w d (none-yet t) = (d, t)
     begun-with n v e (one-more {n = m} {w = w} {d = d} r s) = begun-with m w d r
 
-    runs-one : (n : ℕ) (w u : Walker) (d k : Way) → Runs set cw start n w d → Runs set cw start n u k → (w ≡ u) × (d ≡ k)
+    pub runs-one : (n : ℕ) (w u : Walker) (d k : Way) → Runs set cw start n w d → Runs set cw start n u k → (w ≡ u) × (d ≡ k)
     runs-one zero w u d k (none-yet t) (none-yet s) = (refl, taken-one d k (taken set cw (atStart start)) t s)
     runs-one (suc n) v u e k (one-more {w = w} {d = d} r s) (one-more {w = w₂} {d = d₂} r₂ s₂) =
         let p = runs-one n w w₂ d d₂ r r₂ in
