@@ -94,6 +94,54 @@ pub fn thin(random: &mut Random) -> Chart {
     }
 }
 
+/// Charts whose outline, clockwise from the top left, has 4,093, 4,095, 4,097, 4,096 and 4,092 points.
+pub fn long_outlines() -> Vec<Chart> {
+    let plain = two_rakes();
+    let (mut foot, mut bump) = (two_rakes(), two_rakes());
+    foot.set(510, 9, true);
+    foot.set(511, 9, true);
+    bump.set(1, 4, true);
+    // The two below meet a pixel at its corner, and go all their way back from there: a number of points that
+    // is even.
+    let (mut back, mut less) = (rake(), rake());
+    for chart in [&mut back, &mut less] {
+        chart.set(1, 4, true);
+        chart.set(2, 5, true);
+    }
+    back.set(511, 0, true);
+    less.set(20, 0, false);
+    vec![plain, foot, bump, back, less]
+}
+
+/// One of these, often with a few pixels changed.
+pub fn about_long(random: &mut Random) -> Chart {
+    let mut chart = long_outlines().swap_remove(random.below(5) as usize);
+    for _ in 0..random.below(3) {
+        let (x, y) = (random.below(512), random.below(chart.height as u64));
+        chart.set(x as usize, y as usize, random.once_in(2));
+    }
+    chart
+}
+
+/// A row with teeth on both its sides, and a column that hangs down from its left end.
+fn rake() -> Chart {
+    Chart::of_rule(512, 7, |x, y| match y {
+        1 => true,
+        0 | 2 => x % 2 == 0,
+        _ => x == 0,
+    })
+}
+
+/// Two of them, joined by the column.
+fn two_rakes() -> Chart {
+    Chart::of_rule(512, 10, |x, y| match y {
+        1 | 7 => true,
+        3..=5 => x == 0,
+        9 => false,
+        _ => x % 2 == 0,
+    })
+}
+
 /// A width at or beside a multiple of eight.
 pub fn about_eight(random: &mut Random) -> Chart {
     let width = (8 * random.within(1, 6) + random.within(-1, 1)) as usize;
@@ -101,18 +149,26 @@ pub fn about_eight(random: &mut Random) -> Chart {
     noise(random, width, height)
 }
 
-/// A chart that is refused: a size out of range, or a byte missing.
+/// A chart that is refused: a size out of range, often with all the bytes of that size, or a byte
+/// missing.
 pub fn refused(random: &mut Random) -> Chart {
     let (width, height) = (random.within(1, 20) as usize, random.within(1, 6) as usize);
-    let mut chart = noise(random, width, height);
-    let size = random.pick(&[0, 513, 514, 1024, usize::MAX, usize::MAX / 8]);
-    match random.below(3) {
-        0 => chart.width = size,
-        1 => chart.height = size,
+    let size = random.pick(&[513, 514, 520, 1024]);
+    match random.below(6) {
+        0 => noise(random, size, height),
+        1 => noise(random, width, size),
+        2 => Chart { width: far(random), ..noise(random, width, height) },
+        3 => Chart { height: far(random), ..noise(random, width, height) },
         _ => {
+            let mut chart = noise(random, width, height);
             let length = random.below(chart.bytes.len() as u64);
             chart.bytes.truncate(length as usize);
+            chart
         }
     }
-    chart
+}
+
+/// A size out of range.
+fn far(random: &mut Random) -> usize {
+    random.pick(&[0, 513, 1024, 65536, usize::MAX, usize::MAX / 8])
 }

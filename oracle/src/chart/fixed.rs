@@ -83,6 +83,14 @@ fn refusals(cases: &mut Cases) {
         whole(cases, &chart);
         pixel(cases, &chart, 0, 0);
     }
+    // Beyond 512, with all the bytes: the first pixel, the last, and one beside it.
+    for chart in [full(1, 513, 513), full(513, 1, 65), full(8, 600, 600), full(520, 2, 130)] {
+        whole(cases, &chart);
+        let (right, bottom) = (chart.width as i32 - 1, chart.height as i32 - 1);
+        for (x, y) in [(0, 0), (right, bottom), (right + 1, bottom), (right, bottom + 1)] {
+            pixel(cases, &chart, x, y);
+        }
+    }
 }
 
 fn largest(cases: &mut Cases) {

@@ -40,6 +40,11 @@ fn lines(cases: &mut Cases) {
     line([3.0, 3.0, 3.0, 3.0, 3.0, 3.0, 3.0, 3.0]);
     line([-16383.0, -16383.0, 16383.0, 16383.0, -16383.0, 16383.0, 16383.0, -16383.0]);
     line([0.0, 0.0, 1.0, 0.0, 5.0, -1.0, 5.0, 1.0]);
+    // One of the lines is a point beside the other: one numerator alone is not negligible.
+    line([0.0, 0.0, 1.0, 0.0, 0.0, 1.0, 0.0, 1.0]);
+    line([0.0, 1.0, 0.0, 1.0, 0.0, 0.0, 1.0, 0.0]);
+    // Both are points.
+    line([0.0, 1.0, 0.0, 1.0, 4.0, 0.0, 4.0, 0.0]);
     for sign in [1.0, -1.0] {
         for step in -2..=2 {
             let edge = sign * f64::from_bits(EPSILON.to_bits().wrapping_add_signed(step));

@@ -63,7 +63,7 @@ fn lines(random: &mut Random) -> [f64; 8] {
     let mut values = [0.0; 8].map(|_: f64| value(random, reach));
     let [x1, y1, x2, y2, ..] = values;
     let (dx, dy) = (x2 - x1, y2 - y1);
-    match random.below(8) {
+    match random.below(9) {
         0 => values[4..6].copy_from_slice(&[x1, y1]),
         1 => values[4..6].copy_from_slice(&[x2, y2]),
         // The second line is the first moved and stretched.
@@ -71,6 +71,14 @@ fn lines(random: &mut Random) -> [f64; 8] {
             let (x, y) = (x1 + value(random, 2.0), y1 + value(random, 2.0));
             let stretch = random.pick(&[1.0, -1.0, 0.5, 0.25]);
             values[4..].copy_from_slice(&[x, y, x + dx * stretch, y + dy * stretch]);
+        }
+        // One of them a point, on the other's end or anywhere.
+        7 => {
+            let (point, other) = random.pick(&[(0, 4), (4, 0)]);
+            if random.once_in(4) {
+                values.copy_within(other..other + 2, point);
+            }
+            values.copy_within(point..point + 2, point + 2);
         }
         // On the first line, as near as doubles come.
         4 => {

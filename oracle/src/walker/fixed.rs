@@ -69,6 +69,31 @@ fn fixed_larger(cases: &mut Cases) {
     }
     with_room(cases, disc(false));
     with_room(cases, disc(true));
+    with_room(cases, teeth(false));
+    with_room(cases, teeth(true));
+    // "A walked outline may be longer" than a list of points handed in.
+    for chart in draw::long_outlines() {
+        with_room(cases, Walk { clockwise: true, chart, start: PointI32::new(0, 0), room: 0 });
+    }
+    for (width, height) in [(512, 1), (1, 512), (511, 1), (1, 511)] {
+        for clockwise in [false, true] {
+            let chart = Chart::of_rule(width, height, |_, _| true);
+            with_room(cases, Walk { clockwise, chart, start: PointI32::new(0, 0), room: 0 });
+        }
+    }
+}
+
+/// Every other row of a chart of 512 by 512, the column that joins them, and a pixel at the corner where the
+/// column ends, from which the walk goes all its way back: 522,248 steps. Columns for rows the other way round.
+fn teeth(clockwise: bool) -> Walk {
+    let rows = |x: usize, y: usize| match y {
+        511 => x == 1,
+        510 => x == 0,
+        _ => x == 0 || y % 2 == 0,
+    };
+    let set = |x, y| if clockwise { rows(x, y) } else { rows(y, x) };
+    let chart = Chart::of_rule(512, 512, set);
+    Walk { clockwise, chart, start: PointI32::new(0, 0), room: 0 }
 }
 
 /// A ragged disc that fills a chart of 512 by 512.
@@ -100,6 +125,13 @@ fn fixed_refusals(cases: &mut Cases) {
     for room in [0, 7, 10] {
         let chart = Chart::of_bits(3, 1, 7);
         cases.case(|case| Walk { clockwise: true, chart, start, room }.write(case));
+    }
+    // Beyond 512, with all the bytes; the start good, and out of range.
+    for (width, height) in [(1, 513), (513, 1), (513, 2), (2, 513)] {
+        for start in [PointI32::new(0, 0), PointI32::new(16384, 0)] {
+            let chart = Chart::of_rule(width, height, |_, _| true);
+            cases.case(|case| Walk { clockwise: true, chart, start, room: 10 }.write(case));
+        }
     }
     let mut random = Random::new(7);
     for _ in 0..60 {

@@ -100,6 +100,7 @@ pub fn any_chart(random: &mut Random) -> Chart {
         25..=27 => draw::about_eight(random),
         28 => draw::refused(random),
         29 if random.once_in(64) => draw::blobs(random, 512, 512),
+        30 if random.once_in(64) => draw::about_long(random),
         _ => draw::noise(random, many.0, many.1),
     }
 }
