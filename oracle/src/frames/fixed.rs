@@ -1,9 +1,14 @@
-//! The fixed list: document 01's worked cases that frames can reach, every way to be no frame, the edges of
-//! each count, and generated ones.
+//! The fixed list, which the program `sandline` replays: document 01's worked cases that frames can reach, every
+//! way to be no frame, the edges of each count and of each length of a line, and generated ones.
 
-use super::make;
+use super::make::{frame, listed as listed_points, make, walk_frame};
+use super::{digits, MOST_BYTES};
+use crate::chart::draw;
 use crate::random::Random;
+use crate::reduce::fixed::fixed_random;
+use crate::reduce::shapes::stroll;
 use crate::text::Cases;
+use visioncortex::PointI32;
 
 const SEED: u64 = 41;
 
@@ -11,13 +16,44 @@ const SEED: u64 = 41;
 const WALK: &str = "0101000100010000000080";
 
 pub fn fixed(cases: &mut Cases) {
+    first(cases);
     worked(cases);
     no_frames(cases);
     counts(cases);
+    outlines(cases);
     let mut random = Random::new(SEED);
-    for index in 0..300 {
-        cases.case(|case| make::make(&mut random, index, case));
-    }
+    (0..12).for_each(|place| longest(cases, &mut random, place));
+    lengths(cases, &mut random);
+    fixed_random(cases, make, SEED, 1700);
+    // "A last line needs no newline."
+    cases.text.extend_from_slice(WALK.as_bytes());
+}
+
+/// One of each kind, and what each kind is refused by.
+fn first(cases: &mut Cases) {
+    let lines = [
+        WALK,
+        "0101000100010005000580",
+        "01010002000100010000c0",
+        "010100020002000000008040",
+        "020100050000000000010000000100010000000100000000",
+        "020100050000000000040000000400040000000400000000",
+        "03003000050000000000010000000100010000000100000000",
+        "04000400000000000800020000000400080000",
+        "040000",
+        "0300000001c0000000",
+        "01010002000100010000C0",
+        "",
+        "010100010001000000008",
+        "01010001000100000000g0",
+        "0501000100010000000080",
+        "0102000100010000000080",
+        "01010001000100000000",
+        "010100010001000000008000",
+        "0300000001c000000000",
+        WALK,
+    ];
+    lines.iter().for_each(|line| cases.line(line));
 }
 
 fn worked(cases: &mut Cases) {
@@ -70,6 +106,11 @@ fn no_frames(cases: &mut Cases) {
         "010100010001000000008080",
         "0101000100010000000 80",
         " 0101000100010000000080",
+        "0101000100010000000080 ",
+        "0101000100010000000080\r",
+        "010100010001000000008\r",
+        "\r",
+        "0101000100010000000080\t",
         "0x0101000100010000000080",
         "01",
         "02",
@@ -87,17 +128,29 @@ fn no_frames(cases: &mut Cases) {
         cases.line(line);
         cases.line(WALK);
     }
+    // What stands right beside the digits in the table of characters.
+    for c in ['/', ':', '@', 'G', '`', 'g', '\0', '\u{7f}'] {
+        cases.line(&format!("010100010001000000008{c}"));
+        cases.line(&format!("01010001000100000000{c}0"));
+    }
     cases.line(&WALK.to_uppercase());
     cases.line("0200000100FF00ff");
+    cases.line("0200000100aA0Bb0");
+    cases.line("0200000112340567");
+    cases.line("0200000189abcdef");
 }
 
 /// Every count of points at its edges: 4,095 fill a frame, and 2,047 numbers an answer.
 fn counts(cases: &mut Cases) {
-    for n in [2047_u16, 2048, 4095] {
+    for n in [2047, 2048, 4095, 4096] {
         cases.line(&listed("04", n));
     }
-    cases.line(&listed("0201", 4095));
-    cases.line(&listed("030010", 4095));
+    for n in [4095, 4096] {
+        cases.line(&listed("0201", n));
+    }
+    for n in [4094, 4095] {
+        cases.line(&listed("030010", n));
+    }
     // Coordinates on both sides of the limits.
     for coordinate in ["3fff", "4000", "c001", "c000", "7fff", "8000"] {
         cases.line(&format!("0400020000{coordinate}00000000"));
@@ -110,10 +163,68 @@ fn counts(cases: &mut Cases) {
         let bytes = usize::from(width).div_ceil(8) * usize::from(height);
         cases.line(&format!("0101{width:04x}{height:04x}00000000{}", "80".repeat(bytes)));
     }
+    // The longest frame of a chart that is not refused, 321 rows of 51 bytes; and of any: 6 rows of 2,729.
+    cases.line(&format!("01010198014100000000{}", "ff".repeat(51 * 321)));
+    cases.line(&format!("01015548000600000000{}", "80".repeat(6 * 2729)));
 }
 
 /// A list of points on a saw, short enough to be split quickly.
 fn listed(head: &str, n: u16) -> String {
     let points: String = (0..n).map(|i| format!("{:04x}{:04x}", i, i % 7)).collect();
     format!("{head}{n:04x}{points}")
+}
+
+/// Outlines of 4,092 to 4,097 points, of which up to 4,095 fit.
+fn outlines(cases: &mut Cases) {
+    for chart in draw::long_outlines() {
+        cases.line(&digits(&walk_frame(true, &chart, PointI32::new(0, 0))));
+        cases.line(WALK);
+    }
+}
+
+/// A frame as long as can be, mostly behind short ones, so that it begins anywhere in a buffer. Every third
+/// is answered whole, so that the answer is as long as can be too.
+fn longest(cases: &mut Cases, random: &mut Random, place: usize) {
+    for _ in 0..place / 3 {
+        short(cases, random);
+    }
+    let spread: Vec<i32> = (0..4095).flat_map(|i| [i % 2 * 9, i % 3 * 9]).collect();
+    let values = if place % 3 == 0 { spread } else { stroll(random, 4095) };
+    let frame = digits(&listed_points(vec![2, (place % 2) as u8], &values));
+    assert_eq!(frame.len(), 2 * MOST_BYTES);
+    cases.line(&frame);
+}
+
+/// A frame of some hundred digits at the most.
+fn short(cases: &mut Cases, random: &mut Random) {
+    let frame = digits(&frame(random));
+    cases.line(if frame.len() < 600 { &frame } else { WALK });
+}
+
+/// Lines of any length, frames or not: about the powers of two, about the longest frame, about what a buffer
+/// may hold, and far beyond.
+fn lengths(cases: &mut Cases, random: &mut Random) {
+    let values = stroll(random, 4095);
+    let digits_of = |n: usize| digits(&listed_points(vec![2, 1], &values[..2 * n]));
+    // Frames of 2 and of 4 times 4,096 digits, with one digit less, one and two more.
+    for n in [1023, 2047] {
+        let frame = digits_of(n);
+        let longer = format!("{frame}00");
+        for length in [frame.len() - 1, frame.len(), frame.len() + 1, frame.len() + 2] {
+            cases.line(&longer[..length]);
+            short(cases, random);
+        }
+    }
+    let mut long = digits_of(4095).repeat(3);
+    for length in [32_767, 32_769, 32_770, 33_790, 33_791, 33_792, 33_793, 33_794, 40_000, 70_000] {
+        long.replace_range(0..2, random.pick(&["01", "02", "03", "04"]));
+        cases.line(&long[..length]);
+        short(cases, random);
+    }
+    // The end of a line that is too long is a frame by itself.
+    cases.line(&format!("{}{WALK}", "0".repeat(33_792)));
+    cases.line(&format!("{}\r", digits_of(4095)));
+    cases.line("");
+    cases.line("");
+    short(cases, random);
 }

@@ -1,7 +1,7 @@
 //! Frames of all kinds: valid ones, damaged by one digit, cut, lengthened, and random bytes.
 
 use super::{digits, MOST_BYTES};
-use crate::chart::Chart;
+use crate::chart::{draw, Chart};
 use crate::random::Random;
 use crate::text::Line;
 use crate::{reduce, simplify, walker};
@@ -17,9 +17,16 @@ fn line(random: &mut Random) -> String {
         0 => rubbish(random),
         1 if random.once_in(64) => vec![1; MOST_BYTES + random.below(3) as usize],
         2 if random.once_in(512) => vec![0; 1_000_000],
+        // The frame of a chart is as long as can be at sizes out of range alone: here 6 rows of 2,729 bytes.
+        3 if random.once_in(64) => {
+            walk_frame(true, &draw::noise(random, 21832, 6), PointI32::new(0, 0))
+        }
         _ => frame(random),
     };
     let mut line = digits(&frame);
+    if random.once_in(1024) {
+        lengthen(random, &mut line);
+    }
     match random.below(16) {
         0 => damage(random, &mut line),
         1 => line.truncate(random.below(line.len() as u64 + 1) as usize),
@@ -28,6 +35,15 @@ fn line(random: &mut Random) -> String {
         _ => {}
     }
     line
+}
+
+/// Digits behind the line, up to about a length that a buffer may have.
+fn lengthen(random: &mut Random, line: &mut String) {
+    let about = random.pick(&[4096, 8192, 16_384, 32_768, 33_792, 36_864, 65_536]);
+    let length = (about + random.within(-2, 2)) as usize;
+    while line.len() < length {
+        line.push(random.pick(&['0', '1', '7', '8', 'a', 'f']));
+    }
 }
 
 /// Puts another digit, or what is none, in some place.
@@ -83,7 +99,7 @@ fn length(random: &mut Random) -> usize {
 }
 
 /// A head, the count of points, and the points; now and then a coordinate is at or out of the range.
-fn listed(mut head: Vec<u8>, values: &[i32]) -> Vec<u8> {
+pub fn listed(mut head: Vec<u8>, values: &[i32]) -> Vec<u8> {
     head.extend((values.len() as u16 / 2).to_be_bytes());
     head.extend(values.iter().flat_map(|&value| (value as i16).to_be_bytes()));
     head
