@@ -3,7 +3,7 @@
 use super::make::{self, write};
 use super::{seen, Round};
 use crate::random::Random;
-use crate::text::Cases;
+use crate::text::{Cases, Line};
 
 const SEED: u64 = 61;
 
@@ -18,6 +18,8 @@ pub fn fixed(cases: &mut Cases) {
     corners(cases);
     short_lists(cases);
     edges(cases);
+    halves(cases);
+    long_lists(cases);
     let mut random = Random::new(SEED);
     for index in 0..500 {
         cases.case(|case| make::make(&mut random, index, case));
@@ -113,7 +115,7 @@ fn short_lists(cases: &mut Cases) {
 }
 
 /// Lengths equal to the segment length and a step beside; neighbours twice as long and a step beside;
-/// settings at and beyond their limits; 4,096 points.
+/// settings at and beyond their limits.
 fn edges(cases: &mut Cases) {
     let step = |value: f64, by: i64| f64::from_bits(value.to_bits().wrapping_add_signed(by));
     for by in [-1, 0, 1] {
@@ -134,7 +136,51 @@ fn edges(cases: &mut Cases) {
     // The middle lies, or as good as lies, on the line between the neighbours.
     round(cases, &[0.0, 0.0, 2.0, 0.0, 4.0, 0.0, 6.0, 0.0], &[0; 4], 8.0, 1.0, false);
     round(cases, &[0.0, 0.0, 2.0, 1e-15, 4.0, 0.0, 6.0, 1e-15], &[0; 4], 1000.0, 1.0, false);
+}
+
+/// The middle of a segment and the middle of its neighbours apart by about EPSILON times the ratio, and
+/// lengths of the two halves at the segment length.
+fn halves(cases: &mut Cases) {
+    let step = |value: f64, by: i64| f64::from_bits(value.to_bits().wrapping_add_signed(by));
+    for ratio in [1.0, 8.0, 1000.0] {
+        for times in [0.5, 1.0, 2.0] {
+            for by in [-1, 0, 1] {
+                let apart = step(f64::EPSILON * ratio * times, by);
+                let values = [0.0, apart, 0.0, 0.0, 4.0, 0.0, 4.0, apart];
+                round(cases, &values, &[0; 4], ratio, 1.0, false);
+            }
+        }
+    }
+    round(cases, &[0.0, 1e-15, 0.0, 0.0, 4.0, 0.0, 4.0, 1e-15], &[0; 4], 8.0, 1.0, false);
+    for by in [-1, 0, 1] {
+        let two = step(2.0, by);
+        round(cases, &[-1.0, 0.0, 0.0, 0.0, 4.0, 0.0, 5.0, 0.0], &[0; 4], 8.0, two, false);
+        // One half is longer than the other.
+        round(cases, &[0.0, 0.0, 0.0, 0.0, 4.0, 0.0, 5.0, 0.0], &[0; 4], 8.0, two, false);
+        round(cases, &[-1.0, 0.0, 0.0, 0.0, 4.0, 0.0, 4.0, 0.0], &[0; 4], 8.0, two, false);
+    }
+}
+
+/// 4,096 points, and one more.
+fn long_lists(cases: &mut Cases) {
     let point = |i: i32| [f64::from(i % 128) * 3.0, f64::from(i / 128 + i % 3)];
-    let long: Vec<f64> = (0..4096).flat_map(point).collect();
-    round(cases, &long, &[0; 4095], 8.0, 1.0, true);
+    let long: Vec<f64> = (0..4097).flat_map(point).collect();
+    round(cases, &long[..8192], &[0; 4095], 8.0, 1.0, true);
+    round(cases, &long[..8192], &[0; 4096], 8.0, 1.0, false);
+    // Too many, without room: the answer is short to read.
+    for closed in [false, true] {
+        let corners = vec![0; seen(4097, closed)];
+        let round = Round { ratio: 8.0, length: 1.0, closed, values: long.clone(), corners };
+        cases.case(|case| write(&round, 4, 4, case));
+    }
+    let whole: Vec<i32> = long.iter().map(|&value| value as i32).collect();
+    for (n, room) in [(8192, 4096), (8193, 3), (8194, 3)] {
+        for closed in [false, true] {
+            let case = |case: &mut Line| {
+                case.word("corners").number(1).number(2).bool(closed);
+                case.i32s(&whole[..n]).number(room);
+            };
+            cases.case(case);
+        }
+    }
 }
