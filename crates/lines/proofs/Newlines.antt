@@ -1,17 +1,17 @@
 -- A text and its newlines: the first newline is where `upTo` says, and a line put in front of a text is one line more. Assumes nothing.
-use Prim.Native.Nat.{ℕ, suc, _+_, _≤_, _<_}
+use Prim.Native.Nat.{ℕ, suc, _≤_, _<_}
 use mathlib.Core.Bool.{Bool, true, false}
 use mathlib.Core.List.{List, [], _∷_, _++_}
-use mathlib.Core.Path.{_≡_, refl, sym, ap, subst, _∙_}
+use mathlib.Core.Path.{_≡_, refl, ap, subst}
 use native.Mathlib.Nat.{not-suc-le-zero}
 use native.Mathlib.Omega.{arith}
 use lib.Dec.{eqb}
 use lib.ListN.{length, take, drop}
 use lib.Seq.{take-all}
 use borrow.Author.Tests.{eqb-true}
-use Rattle.line_words.specs.Split.{upTo, onto}
+use Rattle.line_words.specs.Split.{upTo}
 use Rattle.lines.specs.If.{if_then_else_}
-use Rattle.lines.specs.Runs.{linesOf, before, wholeLines}
+use Rattle.lines.specs.Runs.{linesOf, wholeLines}
 
 -- no byte of it is a newline
 abbrev pub Free : List ℕ → Type 0

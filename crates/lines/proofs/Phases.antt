@@ -1,6 +1,6 @@
 -- How far the answers to a text have come, and what a line, a read and the end make of it: over plain lists, with no word about buffers.
 -- Assumes nothing.
-use Prim.Native.Nat.{ℕ, _+_, _≤_, _<_}
+use Prim.Native.Nat.{ℕ, _≤_, _<_}
 use mathlib.Core.Bool.{Bool, true, false, false≢true}
 use mathlib.Core.List.{List, [], _∷_, _++_, append-assoc, append-nil, append-cancel-right}
 use mathlib.Core.Path.{_≡_, refl, sym, ap, _∙_}
@@ -12,6 +12,10 @@ use Rattle.lines.specs.If.{if_then_else_}
 use Rattle.lines.specs.Turns.{line}
 use Rattle.lines.specs.Runs.{linesOf, wholeLines, handed, answersTo}
 use Rattle.lines.proofs.Newlines.{Free, free-append, whole-line, lines-line, none-whole, one-line}
+
+-- of a line that is too long no bytes are handed out
+abbrev pub lineBytes : Bool → List ℕ → List ℕ
+lineBytes long l = if long then [] else l
 
 module _ (answer : List ℕ → List ℕ) (size : ℕ) where
   -- `out` answers all lines of `done`, which a newline ends if anything does: the answers to a text that begins so begin with it
@@ -50,10 +54,7 @@ module _ (answer : List ℕ → List ℕ) (size : ℕ) where
   Dropped true part = size ≤ length part
   Dropped false part = part ≡ []
 
-  -- so the line that `l` ends is handed out as an empty one, or is `l`
-  abbrev pub lineBytes : Bool → List ℕ → List ℕ
-  lineBytes long l = if long then [] else l
-
+  -- so what is handed out of a line is what `l` ends it with, or nothing
   handed-is : (long : Bool) (part l : List ℕ) → Dropped long part → length l < size → handed size (part ++ l) ≡ lineBytes long l
   handed-is true part l d h = rw (le-ltb (length (part ++ l)) size (omega (arith, length-append part l)))
   handed-is false part l d h = rw (d, lt-ltb (length l) size h)
