@@ -20,7 +20,7 @@ use Rattle.lines.specs.declared.reader.Taken.the-variants.{Line, More, E
 use Rattle.lines.proofs.Newlines.{Free, free-before, cut-there, free-all}
 use Rattle.lines.proofs.Phases.{lineBytes}
 
-empty : (l : List ℕ) → length l ≡ 0 → l ≡ []
+pub empty : (l : List ℕ) → length l ≡ 0 → l ≡ []
 empty [] e = refl
 empty (x ∷ l) e = absurd (omega arith)
 
@@ -174,10 +174,10 @@ module _ (r : Reader) (b c u : List ℕ) (over long : Bool) (h : Holds r b c u o
   takes = subst (λ (k : Reader). Took b c u over long (took k b)) (sym in-order) takes-itself
 
 -- what is read behind bytes that stand at the front
-pub fed-holds : (r : Reader) (b c got : List ℕ) (long : Bool) (at : ℕ) → Holds r b c [] false long → r .start ≡ 0 → at ≡ length c →
+pub fed-holds : (r : Reader) (b c got : List ℕ) (over long : Bool) (at : ℕ) → Holds r b c [] over long → over ≡ false → r .start ≡ 0 → at ≡ length c →
     at + length got ≤ length b → length b ≤ 18446744073709551615 →
     Holds (fedReader r (length got)) (take at b ++ got ++ drop (at + length got) b) c got (eqb (length got) 0) long
-fed-holds r b c got long at h z p room small =
+fed-holds r b c got over long at h o z p room small =
     let none : h .gone ≡ [] = empty (h .gone) (omega (arith, z, h .starts)) in
     let front : take at b ≡ c = ap (take at) (h .is ∙ ap (λ (k : List ℕ). k ++ (c ++ h .behind)) none) ∙ take-at c (h .behind) at (sym p) in
     record {
@@ -187,6 +187,6 @@ fed-holds r b c got long at h z p room small =
       starts = z;
       sees = omega (arith, h .sees, h .starts, z);
       ends = omega (arith, h .ends, h .starts, z, p);
-      over-is = ap (λ (o : Bool). eqb (length got) 0 || o) (h .over-is) ∙ or-false (eqb (length got) 0);
+      over-is = ap (λ (o : Bool). eqb (length got) 0 || o) (h .over-is ∙ o) ∙ or-false (eqb (length got) 0);
       long-is = h .long-is;
     }

@@ -3,7 +3,7 @@
 use Prim.Native.Nat.{ℕ, _≤_, _<_}
 use mathlib.Core.Bool.{Bool, true, false, false≢true}
 use mathlib.Core.List.{List, [], _∷_, _++_, append-assoc, append-nil, append-cancel-right}
-use mathlib.Core.Path.{_≡_, refl, sym, ap, _∙_}
+use mathlib.Core.Path.{_≡_, refl, sym, ap, subst, _∙_}
 use native.Mathlib.Omega.{arith}
 use lib.ListN.{length, length-append}
 use lib.Seq.{append-snoc}
@@ -87,50 +87,54 @@ module _ (answer : List ℕ → List ℕ) (size : ℕ) where
         absurd (omega (arith, sym (ap length none) ∙ ap length is ∙ length-append l (10 ∷ rest)))
 
     -- the last line is answered, which no newline ends
-    pub last-answered : (long : Bool) (held left out : List ℕ) → left ≡ [] → Free held → (long ≡ false → 0 < length held) → length held < size →
-        Phase true long held left out → Phase true false [] left (out ++ line (answer (lineBytes long held)))
+    pub last-answered : (over long : Bool) (held left out : List ℕ) → over ≡ true → left ≡ [] → Free held → (long ≡ false → 0 < length held) → length held < size →
+        Phase over long held left out → Phase over false [] left (out ++ line (answer (lineBytes long held)))
     unfolding answersTo
-    last-answered long held left out none f some h (going done part e g d a) =
+    last-answered over long held left out o none f some h (going done part e g d a) =
         let all : text ≡ done ++ (part ++ held) = rw (e, none, append-nil) in
-        ended refl refl refl none
+        ended o refl refl none
         (rw (all, a .all (part ++ held), one-line (part ++ held) (free-append part held g f) (not-empty long d some), handed-is long part held d h, append-nil))
       where
         not-empty : (long : Bool) → Dropped long part → (long ≡ false → 0 < length held) → 0 < length (part ++ held)
         not-empty true d some = omega (arith, length-append part held)
         not-empty false d some = omega (arith, length-append part held, some refl)
-    last-answered long held left out none f some h (ended o g empty left-none e) = absurd (omega (arith, some g, ap length empty))
+    last-answered over long held left out o none f some h (ended p g empty left-none e) = absurd (omega (arith, some g, ap length empty))
 
     -- what is held is dropped: its line is too long
-    pub dropped : (long : Bool) (held left out : List ℕ) → Free held → (long ≡ false → length held ≡ size) →
-        Phase false long held left out → Phase false true [] left out
-    dropped long held left out f full (going done part e g d a) =
+    pub dropped : (over long : Bool) (held left out : List ℕ) → over ≡ false → Free held → (long ≡ false → length held ≡ size) →
+        Phase over long held left out → Phase over true [] left out
+    dropped over long held left out o f full (going done part e g d a) =
         going done (part ++ held) (rw (e, append-assoc part held left)) (free-append part held g f) (enough long d full) a
       where
         enough : (long : Bool) → Dropped long part → (long ≡ false → length held ≡ size) → size ≤ length (part ++ held)
         enough true d full = omega (arith, length-append part held)
         enough false d full = omega (arith, length-append part held, full refl)
-    dropped long held left out f full (ended o g none left-none e) = absurd (false≢true o)
+    dropped over long held left out o f full (ended p g none left-none e) = absurd (false≢true (sym o ∙ p))
 
     -- more is read
-    pub read-on : (over long : Bool) (held got left out : List ℕ) → Phase false long held (got ++ left) out → Phase over long (held ++ got) left out
-    read-on over long held got left out (going done part e g d a) = going done part (rw (e, append-assoc held got left)) g d a
-    read-on over long held got left out (ended o g none left-none e) = absurd (false≢true o)
+    pub read-on : (over over′ long : Bool) (held got left out : List ℕ) → over ≡ false → Phase over long held (got ++ left) out →
+        Phase over′ long (held ++ got) left out
+    read-on over over′ long held got left out o (going done part e g d a) = going done part (rw (e, append-assoc held got left)) g d a
+    read-on over over′ long held got left out o (ended p g none left-none e) = absurd (false≢true (sym o ∙ p))
 
     -- ---- what is answered
 
     -- where no newline is held, and the input may go on: every line that was read
-    pub all-read : (long : Bool) (held left out got : List ℕ) → text ≡ got ++ left → Free held → Phase false long held left out →
+    pub all-read : (over long : Bool) (held left out got : List ℕ) → over ≡ false → text ≡ got ++ left → Free held → Phase over long held left out →
         out ≡ answersTo answer size (wholeLines got)
     unfolding answersTo
-    all-read long held left out got is f (going done part e g d a) =
+    all-read over long held left out got o is f (going done part e g d a) =
         let whole : got ++ left ≡ done ++ (part ++ held) ++ left =
         sym is ∙ e ∙ rw (append-assoc done (part ++ held) left, append-assoc part held left) in
         let came : got ≡ done ++ (part ++ held) = append-cancel-right got (done ++ (part ++ held)) left whole in
         rw (came, a .whole (part ++ held), none-whole (part ++ held) (free-append part held g f), append-nil)
-    all-read long held left out got is f (ended o g none left-none e) = absurd (false≢true o)
+    all-read over long held left out got o is f (ended p g none left-none e) = absurd (false≢true (sym o ∙ p))
 
     -- where nothing is held or left: every line
-    pub all-answered : (out : List ℕ) → Phase true false [] [] out → out ≡ answersTo answer size (linesOf text)
+    pub all-answered : (over long : Bool) (held left out : List ℕ) → long ≡ false → held ≡ [] → left ≡ [] → Phase over long held left out →
+        out ≡ answersTo answer size (linesOf text)
     unfolding linesOf answersTo
-    all-answered out (going done part e g d a) = rw (e, d, a .all [], append-nil)
-    all-answered out (ended o g none left-none e) = e
+    all-answered over long held left out short none left-none (going done part e g d a) =
+        let whole : part ≡ [] = subst (λ (b : Bool). Dropped b part) short d in
+        rw (e, whole, none, left-none, a .all [], append-nil)
+    all-answered over long held left out short none left-none (ended p g none′ left-none′ e) = e
