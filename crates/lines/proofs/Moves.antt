@@ -3,10 +3,10 @@
 use Prim.Native.Nat.{ℕ, zero, suc, _+_, _*_, _-_, _≤_, _<_, min}
 use mathlib.Core.Bool.{Bool, true, false}
 use mathlib.Core.List.{List, [], _∷_, _++_, append-assoc, append-nil}
-use mathlib.Core.Path.{_≡_, refl, sym, ap, subst, _∙_}
+use mathlib.Core.Path.{_≡_, refl, ap}
 use native.Mathlib.Omega.{arith}
 use lib.Dec.{eqb}
-use lib.ListN.{length, take, drop, length-append, length-take, length-drop, take-append-drop}
+use lib.ListN.{length, take, drop, length-append, length-take, length-drop}
 use lib.Seq.{length-take-le, take-at}
 use borrow.Author.Tests.{eqb-true, eqb-false}
 use Rattle.texts.specs.Put.{put}
@@ -14,7 +14,6 @@ use Rattle.texts.proofs.Pieces.{put-fits}
 use Rattle.lines.specs.Turns.{answeredState, line}
 use Rattle.lines.specs.Runs.{Machine, came, done}
 use Rattle.lines.specs.declared.reader.Reader.{Reader}
-use Rattle.lines.specs.declared.turns.State.{State}
 use Rattle.lines.specs.declared.turns.Turn.the-variants.{Read}
 use Rattle.lines.proofs.Newlines.{Free}
 use Rattle.lines.proofs.Phases as Phases

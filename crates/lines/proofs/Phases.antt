@@ -117,7 +117,12 @@ module _ (answer : List ℕ → List ℕ) (size : ℕ) where
     read-on over over′ long held got left out o (going done part e g d a) = going done part (rw (e, append-assoc held got left)) g d a
     read-on over over′ long held got left out o (ended p g none left-none e) = absurd (false≢true (sym o ∙ p))
 
-    -- ---- what is answered
+    -- ---- what is read and answered
+
+    pub read-so-far : (over long : Bool) (held left out : List ℕ) → Phase over long held left out → (got : List ℕ) × (text ≡ got ++ left)
+    read-so-far over long held left out (going done part e g d a) =
+        (done ++ (part ++ held), e ∙ rw (append-assoc done (part ++ held) left, append-assoc part held left))
+    read-so-far over long held left out (ended o g none left-none e) = (text, rw (left-none, append-nil))
 
     -- where no newline is held, and the input may go on: every line that was read
     pub all-read : (over long : Bool) (held left out got : List ℕ) → over ≡ false → text ≡ got ++ left → Free held → Phase over long held left out →
