@@ -1,3 +1,4 @@
 pub mod Bytes
 pub mod Arms
 pub mod Claims
+pub mod Lengths
