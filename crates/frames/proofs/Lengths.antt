@@ -10,8 +10,7 @@ use borrow.Author.Tests.{lt-ltb}
 use Rattle.laws.specs.If.{if-cases}
 use Rattle.pairs.specs.Into.{prepend}
 use Rattle.pairs.specs.Pairs.{pairOf, bytesOf}
-use Rattle.requests.specs.Frame.{requestIn, kindIn}
-use Rattle.frames.specs.Reply.{badReply, replyTo, bytesReply, answerTo}
+use Rattle.frames.specs.Reply.{badReply, bytesReply, answerTo}
 
 -- a byte has two digits
 abbrev Digits : Option (List ℕ) → ℕ → Type 0
