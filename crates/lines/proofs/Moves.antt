@@ -8,39 +8,18 @@ use native.Mathlib.Omega.{arith}
 use lib.Dec.{eqb}
 use lib.ListN.{length, take, drop, length-append, length-take, length-drop}
 use lib.Seq.{length-take-le, take-at}
-use borrow.Author.Tests.{eqb-true, eqb-false}
+use borrow.Author.Tests.{eqb-true}
 use Rattle.texts.specs.Put.{put}
 use Rattle.texts.proofs.Pieces.{put-fits}
 use Rattle.lines.specs.Turns.{answeredState, line}
 use Rattle.lines.specs.Runs.{Machine, came, done}
 use Rattle.lines.specs.declared.reader.Reader.{Reader}
 use Rattle.lines.specs.declared.turns.Turn.the-variants.{Read}
+use Rattle.lines.proofs.TurnsLeft.{toRead, toDrop, turnsTo, last-read}
 use Rattle.lines.proofs.Newlines.{Free}
 use Rattle.lines.proofs.Phases as Phases
 use Rattle.lines.proofs.Phases.{Phase}
 use Rattle.lines.proofs.Held.{empty, Holds, fed-holds}
-
--- ---- how many turns are to come before the end: a read for each byte that is left, and one at the end; a line for each byte that is held or
--- left, and one for a line that is being dropped; a write behind each line, and for what waits
-
-abbrev pub toRead : Bool → ℕ
-toRead true = 0
-toRead false = 1
-
-abbrev pub toDrop : Bool → ℕ
-toDrop true = 2
-toDrop false = 0
-
-abbrev pub turnsTo : Bool → Bool → ℕ → ℕ → ℕ → ℕ
-turnsTo over long held left waiting = 3 * left + 2 * held + toDrop long + min 1 waiting + toRead over
-
--- a read that brings nothing is the last
-last-read : (n : ℕ) → toRead (eqb n 0) ≤ n
-last-read n = by (eqb n 0) refl
-  where
-    by : (t : Bool) → eqb n 0 ≡ t → toRead t ≤ n
-    by true e = omega arith
-    by false e = omega (arith, eqb-false n 0 e)
 
 -- what came, and what is left of it
 rejoined : (k : ℕ) (l : List ℕ) → take k l ++ drop (length (take k l)) l ≡ l

@@ -1,5 +1,5 @@
 -- What a turn of a program that answers lines shows, and what holds behind it. Assumes nothing.
-use Prim.Native.Nat.{ℕ, suc, _+_, _*_, _-_, _≤_, _<_}
+use Prim.Native.Nat.{ℕ, suc, _+_, _-_, _≤_, _<_}
 use mathlib.Core.Bool.{Bool, true, false}
 use mathlib.Core.List.{List, [], _∷_, _++_, append-assoc, append-nil}
 use mathlib.Core.Path.{_≡_, refl, sym, ap, _∙_}
@@ -15,15 +15,11 @@ use Rattle.lines.specs.declared.reader.Reader.{Reader}
 use Rattle.lines.specs.declared.reader.Taken.the-variants as Taken
 use Rattle.lines.specs.declared.turns.Turn.{Turn}
 use Rattle.lines.specs.declared.turns.Turn.the-variants.{Line, Write, Read, End}
+use Rattle.lines.proofs.TurnsLeft.{toDrop, two-back}
 use Rattle.lines.proofs.Newlines.{free-append}
 use Rattle.lines.proofs.Phases as Phases
 use Rattle.lines.proofs.Held.{Took, found, last, none-left, dropped, kept, takes}
-use Rattle.lines.proofs.Moves.{toDrop, Between, Falls, wrote, replied, read-more}
-
--- a line that is the last, or is dropped, gives back its two turns
-two-back : (long : Bool) (n : ℕ) → (long ≡ false → 0 < n) → 2 ≤ 2 * n + toDrop long
-two-back true n h = omega arith
-two-back false n h = omega (arith, h refl)
+use Rattle.lines.proofs.Moves.{Between, Falls, wrote, replied, read-more}
 
 module _ (answer : List ℕ → List ℕ) (most : ℕ) (sizes : ℕ → ℕ) (input output text : List ℕ) (some : 0 < length input)
     (small : length input ≤ 18446744073709551615) (room : (l : List ℕ) → most + length (line (answer l)) ≤ length output) where
