@@ -108,6 +108,9 @@ module _ (s : State) (most : ℕ) (b last : List ℕ) (t : Turn) (next : State) 
   pub line-has-room : (from to : ℕ) → t ≡ Turn.Line from to next → next .waiting ≤ most
   line-has-room from to k = asked (Turn.Line from to next) k .2
 
+  pub read-starts : (at : ℕ) → t ≡ Turn.Read at next → at ≤ length last
+  read-starts at k = asked (Turn.Read at next) k .0
+
 -- ---- what waits lies in an output of `m` bytes
 
 pub begin-waits : (s : State) (m : ℕ) → s ≡ begun → s .waiting ≤ m

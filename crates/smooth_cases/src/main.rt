@@ -3,9 +3,10 @@ mod answer;
 mod round;
 
 use answer::answer;
+use libc::STDERR_FILENO;
 use libc::STDIN_FILENO;
 use libc::STDOUT_FILENO;
-use lines::Taken;
+use lines::Turn;
 
 // The longest answer, of a round, 65,536 patterns of 17 bytes and 65,536 flags of 2, is shorter than 1,246,000
 // bytes, and so fits behind what is kept.
@@ -17,7 +18,7 @@ fn main() {
     run(&mut input, &mut output);
 }
 
-// The same with the buffers.
+// Lends the buffers on as slices.
 fn run(input: &mut [u8; 524288], output: &mut [u8; 2097152]) {
     answer_all(input, output);
 }
@@ -25,42 +26,60 @@ fn run(input: &mut [u8; 524288], output: &mut [u8; 2097152]) {
 // Answers each line. A proved loop has to end, and nothing says that an input does: so it counts its
 // turns down, from a number that no run uses up.
 fn answer_all(input: &mut [u8], output: &mut [u8]) {
-    let mut reader = lines::fresh();
-    let mut at = 0;
+    let mut state = lines::begin();
     let mut turns = u64::MAX;
     while 0 < turns {
         turns -= 1;
-        match lines::take(reader, input) {
-            Taken::Line { from, to, next } => {
-                reader = next;
-                let end = answer(&input[from..to], output, at);
-                at = case_texts::end_line(output, at, end);
-                at = flush(output, at, FULL);
+        match lines::next(state, FULL, input) {
+            Turn::Line { from, to, next } => {
+                let end = answer(&input[from..to], output, next.waiting);
+                let place = case_texts::end_line(output, next.waiting, end);
+                state = lines::answered(next, place);
             }
-            Taken::More { at: place, next } => {
-                reader = lines::fed(next, read(&mut input[place..]));
+            Turn::Write { bytes, next } => {
+                if !write(output, bytes) {
+                    return;
+                }
+                state = next;
             }
-            Taken::End => {
-                flush(output, at, 0);
+            Turn::Read { at, next } => {
+                let Got::Bytes(n) = read(&mut input[at..]) else {
+                    return;
+                };
+                state = lines::fed(next, n);
+            }
+            Turn::End => {
                 return;
             }
         }
     }
 }
 
-// Reads more of the input, and answers how many bytes came.
-fn read(part: &mut [u8]) -> usize {
-    let got = libc::read(STDIN_FILENO, part);
-    io::count(got, part)
+// How many bytes came, none at the end of the input; or that it cannot be read.
+pub enum Got {
+    Bytes(usize),
+    Failed,
 }
 
-// Writes the output up to a place, where that is `least` or more, and answers where the next answer goes.
-fn flush(output: &[u8], at: usize, least: usize) -> usize {
-    if at < least {
-        return at;
+fn read(part: &mut [u8]) -> Got {
+    let got = libc::read(STDIN_FILENO, part);
+    if got < 0 {
+        io::write_all(STDERR_FILENO, b"smooth_cases: the input cannot be read\n");
+        return Got::Failed;
     }
-    if at <= output.len() {
-        io::write_all(STDOUT_FILENO, &output[0..at]);
+    Got::Bytes(io::count(got, part))
+}
+
+// Writes the output up to a place, and answers whether all was written.
+fn write(output: &[u8], to: usize) -> bool {
+    if to <= output.len() {
+        if io::write_all(STDOUT_FILENO, &output[0..to]) {
+            return true;
+        }
     }
-    0
+    io::write_all(
+        STDERR_FILENO,
+        b"smooth_cases: the output cannot be written\n",
+    );
+    false
 }
