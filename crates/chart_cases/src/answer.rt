@@ -30,7 +30,7 @@ pub fn answer(line: &[u8], out: &mut [u8], at: usize) -> usize {
     call(line, chart, &bytes[0..n], out, at)
 }
 
-// The same with the chart.
+// Makes the call that a line names, with its chart, and puts the answer.
 fn call(line: &[u8], chart: Chart, pixels: &[u8], out: &mut [u8], at: usize) -> usize {
     let words = lines::words(line);
     let name = lines::word(line, 0);

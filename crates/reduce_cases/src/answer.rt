@@ -31,7 +31,7 @@ pub fn answer(line: &[u8], out: &mut [u8], at: usize) -> usize {
     reduced(line, bits::from_bits(tolerance), &list[0..n], out, at)
 }
 
-// The same with the tolerance and the points, which all calls but `numbers` have.
+// Makes the call that a line names, with its tolerance and its points, which all calls but `numbers` have.
 fn reduced(line: &[u8], tolerance: f64, points: &[i32], out: &mut [u8], at: usize) -> usize {
     let words = lines::words(line);
     let call = lines::word(line, 0);

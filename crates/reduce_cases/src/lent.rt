@@ -73,7 +73,7 @@ pub fn reduce(line: &[u8], tolerance: f64, points: &[i32], out: &mut [u8], at: u
     )
 }
 
-// The same with the buffers.
+// Reduces a list with the buffers lent, and puts the answer.
 fn narrow(
     points: &[i32],
     tolerance: f64,

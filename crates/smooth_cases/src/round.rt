@@ -39,7 +39,7 @@ pub fn subdivide(line: &[u8], closed: bool, out: &mut [u8], at: usize) -> usize 
     )
 }
 
-// The same with what is given, and the rooms that are asked for.
+// Reads the rooms that a round is given, and lends them.
 fn round(
     line: &[u8],
     settings: Settings,
@@ -71,7 +71,7 @@ fn round(
     )
 }
 
-// The same with the buffers.
+// Makes a round with the buffers lent, and puts the answer.
 fn smoothed(
     settings: Settings,
     closed: bool,

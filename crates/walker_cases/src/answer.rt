@@ -52,7 +52,7 @@ fn walk(line: &[u8], out: &mut [u8], at: usize) -> usize {
     walk_from(line, chart, PointI32 { x: x, y: y }, out, at)
 }
 
-// The same with the size of the chart and the start.
+// Reads the direction and the pixels of a walk, whose chart and start are read.
 fn walk_from(line: &[u8], chart: Chart, start: PointI32, out: &mut [u8], at: usize) -> usize {
     let clockwise = case_words::read_choice(lines::word(line, 1));
     if 1 < clockwise {
@@ -65,7 +65,7 @@ fn walk_from(line: &[u8], chart: Chart, start: PointI32, out: &mut [u8], at: usi
     walk_on(line, chart, &bytes[0..n], start, clockwise == 1, out, at)
 }
 
-// The same with the pixels and the direction.
+// Reads the room of a walk, makes it, and puts the answer.
 fn walk_on(
     line: &[u8],
     chart: Chart,
