@@ -4,6 +4,7 @@ mod chart;
 mod compare;
 mod document;
 mod frames;
+mod held;
 mod panics;
 mod point;
 mod random;
@@ -12,6 +13,7 @@ mod simplify;
 mod smooth;
 mod sqrt;
 mod text;
+mod told;
 mod util;
 mod walker;
 #[cfg(test)]
@@ -23,8 +25,8 @@ use std::process::ExitCode;
 use std::thread;
 use text::{Cases, Line, Words};
 
-const USAGE: &str =
-    "oracle answer NAME | make NAME COUNT SEED | cases NAME | compare NAME COUNT SEED OURS..";
+const USAGE: &str = "oracle answer NAME | make NAME COUNT SEED | cases NAME | \
+    compare NAME COUNT SEED OURS.. | told NAME CASES ANSWERS";
 
 /// A list of 4,096 points may be split 4,096 deep.
 const STACK: usize = 1 << 28;
@@ -109,6 +111,7 @@ fn run(words: &[String]) -> io::Result<ExitCode> {
             (subject.fixed)(&mut cases);
             io::stdout().lock().write_all(&cases.text)?;
         }
+        ("told", [cases, answers]) => told::told(subject, cases, answers)?,
         ("compare", [count, seed, ours @ ..]) if !ours.is_empty() => {
             return compare::compare(subject, number(count)?, number(seed)?, ours);
         }

@@ -73,6 +73,7 @@ fn worked(cases: &mut Cases) {
         "020000020007000700080008",
         "02000003000000000064000000000000", // (0,0) (100,0) (0,0)
         "03003000050000000000010000000100010000000100000000", // P11: tolerance 3
+        "0300a000040000000000070001000b0006000bffec", // a radial distance of exactly half the squared tolerance
         "0300000003000000000003000400060008",
         "030040000300000000000300040006000800",
         "0400040000000000080002000000040008 0000",
@@ -128,8 +129,13 @@ fn no_frames(cases: &mut Cases) {
         cases.line(line);
         cases.line(WALK);
     }
+    // Other kinds, with what a walk or numbers would have behind them.
+    for kind in ["00", "05", "11", "14", "81", "84", "41", "44"] {
+        cases.line(&format!("{kind}01000100010000000080"));
+        cases.line(&format!("{kind}000100070008"));
+    }
     // What stands right beside the digits in the table of characters.
-    for c in ['/', ':', '@', 'G', '`', 'g', '\0', '\u{7f}'] {
+    for c in ['/', ':', '@', 'G', '`', 'g', '\u{1}', '\u{7f}'] {
         cases.line(&format!("010100010001000000008{c}"));
         cases.line(&format!("01010001000100000000{c}0"));
     }
@@ -145,6 +151,8 @@ fn counts(cases: &mut Cases) {
     for n in [2047, 2048, 4095, 4096] {
         cases.line(&listed("04", n));
     }
+    // Too many numbers, and a bad point: 3 before 10.
+    cases.line(&listed("04", 2048).replacen("00010001", "40000001", 1));
     for n in [4095, 4096] {
         cases.line(&listed("0201", n));
     }
@@ -153,7 +161,10 @@ fn counts(cases: &mut Cases) {
     }
     // Coordinates on both sides of the limits.
     for coordinate in ["3fff", "4000", "c001", "c000", "7fff", "8000"] {
-        cases.line(&format!("0400020000{coordinate}00000000"));
+        for head in ["0200", "030010", "04"] {
+            cases.line(&format!("{head}0002{coordinate}000000000000"));
+            cases.line(&format!("{head}0002000000000000{coordinate}"));
+        }
         cases.line(&format!("010100010001{coordinate}000080"));
         cases.line(&format!("0101000100010000{coordinate}80"));
     }
@@ -166,6 +177,8 @@ fn counts(cases: &mut Cases) {
     // The longest frame of a chart that is not refused, 321 rows of 51 bytes; and of any: 6 rows of 2,729.
     cases.line(&format!("01010198014100000000{}", "ff".repeat(51 * 321)));
     cases.line(&format!("01015548000600000000{}", "80".repeat(6 * 2729)));
+    // A good chart, but too long a frame: 256 rows of 64 bytes.
+    cases.line(&format!("01010200010000000000{}", "ff".repeat(256 * 64)));
 }
 
 /// A list of points on a saw, short enough to be split quickly.

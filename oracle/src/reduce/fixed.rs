@@ -13,6 +13,7 @@ pub fn fixed(cases: &mut Cases) {
             }
         }
     }
+    fixed_equal(cases);
     fixed_rooms(cases);
     fixed_refusals(cases);
     fixed_zooms(cases);
@@ -79,6 +80,23 @@ fn squares_between(values: &[i32]) -> Vec<f64> {
     let points = points_of(values);
     let between = points.windows(2).map(|pair| pair[1] - pair[0]);
     between.map(|vector| f64::from(vector.length_squared())).collect()
+}
+
+/// A radial distance of exactly half the squared tolerance: at 10 the second point is left out, and the third is not;
+/// a step below it is the other way round. And the tolerances whose half square is a step below and above 5.
+fn fixed_equal(cases: &mut Cases) {
+    let far = [0, 0, 7, 1, 11, 6, 11, -20];
+    let near = [0, 0, 2, 1, 3, 2, 3, -20];
+    let beside = |value: f64| [value.next_down(), value, value.next_up()];
+    for tolerance in beside(10.0) {
+        cases.case(|case| Call::new("reduce", tolerance, &far).write(case));
+    }
+    for tolerance in beside(10.0_f64.sqrt()) {
+        cases.case(|case| Call::new("reduce", tolerance, &near).write(case));
+    }
+    for sq_tolerance in beside(50.0) {
+        cases.case(|case| Call::new("radial", sq_tolerance, &far).write(case));
+    }
 }
 
 /// Each room from nothing to more than enough, the others enough.
@@ -183,7 +201,7 @@ pub(crate) fn fixed_random(
     }
 }
 
-/// Lists of 4,096 points, and of one more.
+/// Lists of 4,096 points, of half a point more, and of one.
 fn fixed_long(cases: &mut Cases) {
     let mut random = Random::new(10);
     let stroll = shapes::stroll(&mut random, 4096);
@@ -196,8 +214,10 @@ fn fixed_long(cases: &mut Cases) {
     let arc = shapes::arc(&mut random, 4096);
     cases.case(|case| Call::new("douglas_peucker", 0.25, &arc).write(case));
     for name in CALLS {
-        let call = Call::new(name, 1.0, &[1; 8194]);
-        cases.case(|case| Call { room: 4, scratch: 4, marks: 4, ..call }.write(case));
+        for (values, tolerance) in [(&[1; 8193][..], -1.0), (&[1; 8194], 1.0)] {
+            let call = Call::new(name, tolerance, values);
+            cases.case(|case| Call { room: 4, scratch: 4, marks: 4, ..call }.write(case));
+        }
     }
 }
 

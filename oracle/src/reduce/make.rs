@@ -68,10 +68,10 @@ impl Call {
     }
 }
 
-/// The numbers of a list, or none where the list is refused.
+/// The numbers of a list, or one for each whole point where the list is refused.
 pub fn numbers_of(values: &[i32]) -> Vec<f64> {
     if too_many(values) || bad_point(values) {
-        return Vec::new();
+        return vec![f64::INFINITY; values.len() / 2];
     }
     numbers(&points_of(values))
 }

@@ -3,6 +3,7 @@
 //! The Rust gives the kept points and not their places, which repeated points leave open. But it
 //! takes points over any kind of number: here over whole numbers that know their place.
 
+use crate::hold_eq;
 use std::ops::{Add, Mul, Sub};
 use visioncortex::reduce::simplify_douglas_peucker;
 use visioncortex::{Point2, PointI32};
@@ -59,7 +60,7 @@ pub fn douglas_peucker(points: &[PointI32], sq_tolerance: f64) -> (Vec<PointI32>
 
     let kept = simplify_douglas_peucker(points, sq_tolerance);
     let at_places: Vec<PointI32> = places.iter().map(|&place| points[place]).collect();
-    assert_eq!(at_places, kept, "places do not fit the points for {points:?} at {sq_tolerance}");
+    hold_eq!(at_places, kept, "places do not fit the points for {points:?} at {sq_tolerance}");
 
     let mut marks = vec![0; points.len()];
     for place in places {

@@ -111,7 +111,7 @@ fn fixed_refusals(cases: &mut Cases) {
     }
 }
 
-/// Lists of 4,096 points, and of one more.
+/// Lists of 4,096 points, of half a point more, and of one.
 fn fixed_long(cases: &mut Cases) {
     let mut random = Random::new(12);
     let stairs = shapes::stairs(&mut random, 4096);
@@ -127,8 +127,10 @@ fn fixed_long(cases: &mut Cases) {
     let spread: Vec<i32> = (0..4096).flat_map(|i| [i % 2 * 9, i % 3 * 9]).collect();
     cases.case(|case| Call::new("simplify", true, &spread).write(case));
     for name in CALLS {
-        let call = Call::new(name, false, &[1; 8194]);
-        cases.case(|case| Call { room: 4, ..call }.write(case));
+        for values in [&[1; 8193][..], &[1; 8194]] {
+            let call = Call::new(name, false, values);
+            cases.case(|case| Call { room: 4, ..call }.write(case));
+        }
     }
 }
 

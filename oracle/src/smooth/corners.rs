@@ -1,6 +1,7 @@
 //! Corners by document 01's rule in whole numbers, held against the Rust's `find_corners`, which
 //! compares angles.
 
+use crate::{held, hold_eq};
 use std::sync::atomic::{AtomicU64, Ordering::Relaxed};
 use visioncortex::{PathI32, PointI32, SubdivideSmooth};
 
@@ -27,7 +28,7 @@ pub fn corners(points: &[PointI32], pair: (i32, i32), closed: bool) -> Vec<u8> {
     let threshold = f64::from(pair.1).atan2(f64::from(pair.0));
     let path = PathI32::from_points(points.to_vec());
     let rust = SubdivideSmooth::find_corners(&path, threshold, closed);
-    assert_eq!(rust.len(), seen.len());
+    hold_eq!(rust.len(), seen.len());
     let mut flags = Vec::new();
     for i in 0..seen.len() {
         let end = !closed && (i == 0 || i == seen.len() - 1);
@@ -35,7 +36,7 @@ pub fn corners(points: &[PointI32], pair: (i32, i32), closed: bool) -> Vec<u8> {
         let behind = seen[(i + 1) % seen.len()];
         let (v1, v2) = (vector(before, seen[i]), vector(seen[i], behind));
         let flag = end || sharp(pair, v1, v2);
-        if !end {
+        if !end && held::holds() {
             hold(flag, rust[i], v1, v2, threshold);
         }
         flags.push(u8::from(flag));

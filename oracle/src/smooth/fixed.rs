@@ -1,9 +1,12 @@
 //! The fixed list.
 
 use super::make::{self, write};
-use super::{seen, Round};
+use super::{seen, subdivide, Round};
+use crate::point::make::COORDINATE;
 use crate::random::Random;
+use crate::reduce::fixed::bad_lists;
 use crate::text::{Cases, Line};
+use visioncortex::PointF64;
 
 const SEED: u64 = 61;
 
@@ -19,6 +22,9 @@ pub fn fixed(cases: &mut Cases) {
     short_lists(cases);
     edges(cases);
     halves(cases);
+    places(cases);
+    refusals(cases);
+    lengths(cases);
     long_lists(cases);
     let mut random = Random::new(SEED);
     for index in 0..500 {
@@ -128,7 +134,8 @@ fn edges(cases: &mut Cases) {
         round(cases, &SQUARE, &[0; 4], 8.0, step(65536.0, by), true);
         round(cases, &SQUARE, &[0; 4], 8.0, step(4.0, by), true);
     }
-    for bad in [f64::NAN, f64::INFINITY, f64::NEG_INFINITY, -0.0, -1.0, 0.0] {
+    let least = f64::from_bits(1);
+    for bad in [f64::NAN, f64::INFINITY, f64::NEG_INFINITY, -0.0, -1.0, 0.0, least, -least] {
         round(cases, &SQUARE, &[0; 4], bad, 1.0, true);
         round(cases, &SQUARE, &[0; 4], 8.0, bad, true);
         round(cases, &[0.0, 0.0, bad, 4.0, 1.0, 1.0], &[0; 3], 8.0, 1.0, false);
@@ -136,6 +143,12 @@ fn edges(cases: &mut Cases) {
     // The middle lies, or as good as lies, on the line between the neighbours.
     round(cases, &[0.0, 0.0, 2.0, 0.0, 4.0, 0.0, 6.0, 0.0], &[0; 4], 8.0, 1.0, false);
     round(cases, &[0.0, 0.0, 2.0, 1e-15, 4.0, 0.0, 6.0, 1e-15], &[0; 4], 1000.0, 1.0, false);
+    // Zeros with a sign, in what is kept and in what enters.
+    round(cases, &[-1.0, -0.0, -0.0, -0.0, 4.0, -0.0, 5.0, -0.0], &[0; 4], 8.0, 1.0, false);
+    round(cases, &[-0.0, -1.0, -0.0, -0.0, -0.0, 4.0, -0.0, 5.0], &[0; 4], 8.0, 1.0, false);
+    // A middle that is the least double.
+    round(cases, &[-1.0, least, 0.0, least, 4.0, least, 5.0, least], &[0; 4], 8.0, 1.0, false);
+    round(cases, &[least, -1.0, least, 0.0, least, 4.0, least, 5.0], &[0; 4], 8.0, 1.0, false);
 }
 
 /// The middle of a segment and the middle of its neighbours apart by about EPSILON times the ratio, and
@@ -161,23 +174,103 @@ fn halves(cases: &mut Cases) {
     }
 }
 
+/// Any points, and the segment length that of a segment to the bit or a step below: of one that was there, or of
+/// one that the round makes.
+fn lengths(cases: &mut Cases) {
+    let mut random = Random::new(SEED + 1);
+    for place in 0..160 {
+        let reach = random.pick(&[3.0, 100.0, COORDINATE]);
+        let values = (0..8).map(|_| (random.fraction() * 2.0 - 1.0) * reach).collect();
+        let mut round =
+            Round { ratio: 8.0, length: 0.0, closed: false, values, corners: vec![0; 4] };
+        let points = match place % 2 {
+            0 => round.values.chunks_exact(2).map(|pair| PointF64::new(pair[0], pair[1])).collect(),
+            _ => subdivide(&round).0,
+        };
+        let at = random.below(points.len() as u64 - 1) as usize;
+        let length = (points[at] - points[at + 1]).norm();
+        round.length = if random.once_in(2) { length } else { length.next_down() };
+        cases.case(|case| write(&round, 14, 7, case));
+    }
+}
+
+/// Each place of a list at a limit and beyond it: of a closed list the last point too, which is not looked at otherwise.
+fn places(cases: &mut Cases) {
+    for list in bad_lists() {
+        for closed in [false, true] {
+            let room = seen(list.len() / 2, closed);
+            let case = |case: &mut Line| {
+                case.word("corners").number(0).number(1).bool(closed).i32s(&list).number(room);
+            };
+            cases.case(case);
+        }
+    }
+    for edge in [16383.0, 16383.0_f64.next_up(), -16383.0, (-16383.0_f64).next_down()] {
+        for place in 0..6 {
+            let mut values = [0.0, 0.0, 3.0, 4.0, 6.0, 0.0];
+            values[place] = edge;
+            round(cases, &values, &[0; 3], 8.0, 1.0, false);
+            round(cases, &values, &[0; 2], 8.0, 1.0, true);
+        }
+    }
+}
+
+/// Every two refusals at once.
+fn refusals(cases: &mut Cases) {
+    for first in 0..5 {
+        for second in first + 1..5 {
+            let is = |refusal| [first, second].contains(&refusal);
+            let mut values = if is(0) { vec![1.0; 2] } else { SQUARE.to_vec() };
+            let mut corners = vec![0; seen(values.len() / 2, true)];
+            let (mut ratio, mut room) = (8.0, 18);
+            if is(1) {
+                values[1] = f64::NAN;
+            }
+            if is(2) {
+                corners.push(0);
+            }
+            if is(3) {
+                ratio = 0.5;
+            }
+            if is(4) {
+                room = 0;
+            }
+            let round = Round { ratio, length: 1.0, closed: true, values, corners };
+            cases.case(|case| write(&round, room, room, case));
+        }
+    }
+    for (pair, list, room) in [
+        ("0 0", "0,0,4,0,4,4", 2),
+        ("0 0", "0,0,4,0,4,16384", 3),
+        ("0 1", "0,0,4,0,4,16384", 2),
+        ("0 0", "16384", 0),
+        ("0 0", "-", 0),
+        ("0 1", "16384", 0),
+    ] {
+        cases.line(&format!("corners {pair} 0 {list} {room}"));
+        cases.line(&format!("corners {pair} 1 {list} {}", room.max(1) - 1));
+    }
+}
+
 /// 4,096 points, and one more.
 fn long_lists(cases: &mut Cases) {
     let point = |i: i32| [f64::from(i % 128) * 3.0, f64::from(i / 128 + i % 3)];
     let long: Vec<f64> = (0..4097).flat_map(point).collect();
     round(cases, &long[..8192], &[0; 4095], 8.0, 1.0, true);
     round(cases, &long[..8192], &[0; 4096], 8.0, 1.0, false);
-    // Too many, without room: the answer is short to read.
-    for closed in [false, true] {
-        let corners = vec![0; seen(4097, closed)];
-        let round = Round { ratio: 8.0, length: 1.0, closed, values: long.clone(), corners };
-        cases.case(|case| write(&round, 4, 4, case));
-    }
+    // Too many, without room: the answer is short to read. And all else wrong too.
+    let (ratio, length, mut values) = (8.0, 1.0, long.clone());
+    let corners = vec![0; 4096];
+    let round = Round { ratio, length, closed: true, values: values.clone(), corners };
+    cases.case(|case| write(&round, 4, 4, case));
+    values[8193] = f64::NAN;
+    let round = Round { ratio: 0.0, length, closed: false, values, corners: vec![2; 9] };
+    cases.case(|case| write(&round, 4, 4, case));
     let whole: Vec<i32> = long.iter().map(|&value| value as i32).collect();
-    for (n, room) in [(8192, 4096), (8193, 3), (8194, 3)] {
+    for (n, s, room) in [(8192, 2, 4096), (8193, 0, 3), (8194, 2, 3)] {
         for closed in [false, true] {
             let case = |case: &mut Line| {
-                case.word("corners").number(1).number(2).bool(closed);
+                case.word("corners").number(1).number(s).bool(closed);
                 case.i32s(&whole[..n]).number(room);
             };
             cases.case(case);

@@ -1,7 +1,7 @@
 //! The fixed list.
 
 use super::make::{self, put, EPSILON, MARGIN};
-use crate::point::make::F64_EDGES;
+use crate::point::make::{COORDINATE, F64_EDGES};
 use crate::random::Random;
 use crate::text::{Cases, Line};
 
@@ -22,6 +22,12 @@ pub fn fixed(cases: &mut Cases) {
     lines(cases);
     ratios(cases);
     limits(cases);
+    // Lengths whose last bit depends on every rounding.
+    let mut random = Random::new(SEED + 1);
+    for _ in 0..120 {
+        let values = [0.0; 2].map(|_: f64| (random.fraction() * 2.0 - 1.0) * COORDINATE);
+        cases.case(|case| put(case.word("norm"), &values));
+    }
     let mut random = Random::new(SEED);
     for index in 0..700 {
         cases.case(|case| make::make(&mut random, index, case));
@@ -43,6 +49,14 @@ fn lines(cases: &mut Cases) {
     // One of the lines is a point beside the other: one numerator alone is not negligible.
     line([0.0, 0.0, 1.0, 0.0, 0.0, 1.0, 0.0, 1.0]);
     line([0.0, 1.0, 0.0, 1.0, 0.0, 0.0, 1.0, 0.0]);
+    // Zeros with a sign: of the point, and of each ratio.
+    line([-0.0, 1.0, -0.0, 2.0, -1.0, 0.0, 1.0, 0.0]);
+    line([1.0, -0.0, 2.0, -0.0, 0.0, -1.0, 0.0, 1.0]);
+    for [x, y] in [[1.0, 0.0], [-1.0, 0.0], [0.0, 1.0], [0.0, -1.0]] {
+        line([0.0, 0.0, x, y, -y, -x, y, x]);
+        line([-y, -x, y, x, 0.0, 0.0, x, y]);
+        line([-0.0, -0.0, x, y, -y, -x, y, x]);
+    }
     // Both are points.
     line([0.0, 1.0, 0.0, 1.0, 4.0, 0.0, 4.0, 0.0]);
     for sign in [1.0, -1.0] {

@@ -5,7 +5,7 @@ use super::{ends_soon, put_state};
 use crate::chart::{draw, first_start, Chart};
 use crate::random::Random;
 use crate::text::Cases;
-use visioncortex::{PointI32, SpiralWalker};
+use visioncortex::{PointI32, SpiralState, SpiralWalker};
 
 pub fn fixed(cases: &mut Cases) {
     fixed_small(cases);
@@ -152,6 +152,7 @@ fn fixed_spiral(cases: &mut Cases) {
             walker.next();
         }
     }
+    fields(cases);
     let mut random = Random::new(8);
     for _ in 0..200 {
         let mut state = state(&mut random);
@@ -165,6 +166,32 @@ fn fixed_spiral(cases: &mut Cases) {
         _ = walker.nth(skip);
         cases.case(|case| put_state(case.word("spiral_step"), &walker.state()));
     }
+}
+
+/// Each field of a state at both its ends and beyond them, all others within.
+fn fields(cases: &mut Cases) {
+    let state = SpiralState { x: 1, y: 2, dir: 1, gx: 0, gy: 1, sq: 5, cc: 2, area: 100, step: 50 };
+    for edge in [-513, -512, 512, 513] {
+        spiral_step(cases, SpiralState { x: edge, ..state });
+        spiral_step(cases, SpiralState { y: edge, ..state });
+    }
+    for edge in -2..=5 {
+        spiral_step(cases, SpiralState { dir: edge, ..state });
+        spiral_step(cases, SpiralState { gx: edge, ..state });
+        spiral_step(cases, SpiralState { gy: edge, ..state });
+        spiral_step(cases, SpiralState { cc: edge, ..state });
+    }
+    for edge in [-1, 0, 1, 2, 1023, 1024, 1025] {
+        spiral_step(cases, SpiralState { sq: edge, cc: 0, ..state });
+    }
+    for edge in [49, 50, 51, 262_143, 262_144, 262_145] {
+        spiral_step(cases, SpiralState { area: edge, ..state });
+        spiral_step(cases, SpiralState { area: edge, step: edge, ..state });
+    }
+}
+
+fn spiral_step(cases: &mut Cases, state: SpiralState) {
+    cases.case(|case| put_state(case.word("spiral_step"), &state));
 }
 
 /// Lines that are no cases.

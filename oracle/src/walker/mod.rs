@@ -5,6 +5,7 @@ pub mod make;
 
 use crate::chart::Chart;
 use crate::document::{self, lowest, BAD_POINT, BAD_SIZE, NO_ROOM, NO_WAY, STUCK};
+use crate::hold_eq;
 use crate::panics;
 use crate::text::{Line, Words, I32_MARKER};
 use visioncortex::{BinaryImage, PathWalker, PointI32, SpiralState, SpiralWalker};
@@ -70,7 +71,7 @@ fn walk(image: &BinaryImage, start: PointI32, clockwise: bool) -> Result<Vec<Poi
     });
     // "NoWay: the start has no exit": the Rust may find none at the start alone.
     let no_way = matches!(outline, Err(NO_WAY));
-    assert_eq!(no_way, exits(image, start).is_empty(), "no way in mid walk from {start:?}");
+    hold_eq!(no_way, exits(image, start).is_empty(), "no way in mid walk from {start:?}");
     outline
 }
 
