@@ -8,6 +8,7 @@ use crate::reduce::shapes;
 use crate::simplify;
 use crate::text::Line;
 use crate::util::make::value;
+use visioncortex::PointF64;
 
 pub fn make(random: &mut Random, _: u64, case: &mut Line) {
     if random.once_in(3) {
@@ -98,7 +99,48 @@ fn round(random: &mut Random, n: usize) -> Round {
         }
         _ => {}
     }
-    Round { ratio: ratio(random), length: segment_length(random), closed, values, corners }
+    let mut round =
+        Round { ratio: ratio(random), length: segment_length(random), closed, values, corners };
+    if round.values.len() == 8 && random.once_in(4) {
+        flatten(random, &mut round);
+    }
+    if random.once_in(6) {
+        occurring(random, &mut round);
+    }
+    round
+}
+
+/// Four points whose middles lie apart by about EPSILON times the ratio.
+fn flatten(random: &mut Random, round: &mut Round) {
+    let times = random.pick(&[0.25, 0.5, 1.0, 2.0]);
+    let apart = f64::EPSILON * round.ratio * times;
+    let step = random.within(-1, 1);
+    let apart = f64::from_bits(apart.to_bits().wrapping_add_signed(step));
+    let (x, y) = random.pick(&[(apart, 0.0), (0.0, apart), (0.0, -apart)]);
+    let last = if round.closed { [-1.0, 0.0] } else { [5.0 + x, y] };
+    round.values = vec![-1.0 + x, y, 0.0, 0.0, 4.0, 0.0, last[0], last[1]];
+}
+
+/// A segment length that is the length of a segment: of the list, or of one that a round makes; or a step below.
+fn occurring(random: &mut Random, round: &mut Round) {
+    let fair = round.values.len() % 2 == 0 && (1.0..=1000.0).contains(&round.ratio);
+    let n = round.values.len() / 2;
+    if !fair || n < 2 || n > 100 || round.corners.len() != seen(n, round.closed) {
+        return;
+    }
+    round.length = 0.0;
+    let points = subdivide_once(random, round);
+    let at = random.below(points.len() as u64 - 1) as usize;
+    let length = (points[at] - points[at + 1]).norm();
+    round.length = if random.once_in(2) { length } else { length.next_down() };
+}
+
+/// The points of a round, or of the list.
+fn subdivide_once(random: &mut Random, round: &Round) -> Vec<PointF64> {
+    if random.once_in(2) {
+        return super::subdivide(round).0;
+    }
+    round.values.chunks_exact(2).map(|pair| PointF64::new(pair[0], pair[1])).collect()
 }
 
 /// Half a point more, or a coordinate at or beyond a limit.
