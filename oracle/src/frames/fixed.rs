@@ -24,7 +24,7 @@ pub fn fixed(cases: &mut Cases) {
     let mut random = Random::new(SEED);
     (0..12).for_each(|place| longest(cases, &mut random, place));
     lengths(cases, &mut random);
-    fixed_random(cases, make, SEED, 1700);
+    fixed_random(cases, make, SEED, 1750);
     // "A last line needs no newline."
     cases.text.extend_from_slice(WALK.as_bytes());
 }
