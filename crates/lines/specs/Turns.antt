@@ -1,10 +1,8 @@
--- What a program that answers lines does next, and what it has written when it reads on or ends. `nextTurn` is what `next` promises; `stepOf`
--- is a program's turn, with the answer that it puts; `after` lets a program run on a text. proofs/Answers says what it then writes.
-use Prim.Native.Nat.{ℕ, zero, suc, _+_, _-_, min}
-use mathlib.Core.Bool.{true, false}
+-- What a program that answers lines does next: `nextTurn` is what `next` promises, and `stepOf` a program's turn with the answer that it puts.
+use Prim.Native.Nat.{ℕ, _-_}
 use mathlib.Core.List.{List, [], _∷_, _++_}
-use lib.Dec.{ltb, eqb}
-use lib.ListN.{length, take, drop}
+use lib.Dec.{ltb}
+use lib.ListN.{take, drop}
 use Rattle.texts.specs.Put.{put}
 use Rattle.lines.specs.If.{if_then_else_}
 use Rattle.lines.specs.Reader.{freshReader, fedReader, taken}

@@ -1,6 +1,5 @@
 // One turn of the program: what is to be done next and, where that is a line, its answer put behind what
 // waits.
-ghost use mathlib.Core.List.{[], _∷_, _++_};
 ghost use mathlib.Core.Path.{_≡_};
 ghost use Prim.Native.Nat.{_+_, _≤_};
 ghost use lib.ListN.{length};

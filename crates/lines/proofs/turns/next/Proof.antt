@@ -1,11 +1,11 @@
 -- `lines::next` meets its contract. Assumes nothing.
 use Prim.Native.Nat.{ℕ, _<_, _≤_}
 use mathlib.Core.List.{List}
-use mathlib.Core.Path.{_≡_, ap, _∙_}
+use mathlib.Core.Path.{_≡_, ap}
 use borrow.Author.Needs.{needs}
 use borrow.Author.Tests.{lt-ltb, le-ltb}
 use Rattle.lines.specs.Reader.{Outcome, taken}
-use Rattle.lines.specs.Turns.{Next, writes, turnOf, nextTurn}
+use Rattle.lines.specs.Turns.{writes, turnOf, nextTurn}
 use Rattle.lines.specs.declared.reader.Taken.{Taken}
 use Rattle.lines.specs.declared.turns.State.{State}
 use Rattle.lines.specs.declared.turns.Turn.{Turn}

@@ -9,7 +9,7 @@ use denote.Enum.Declared.{tagOf}
 use types.Run.{OneOf}
 use borrow.Author.Needs.{needs}
 use Rattle.texts.specs.Put.{Outcome, put}
-use Rattle.lines.specs.Turns.{Next, Step, answeredState, line, nextTurn, stepped, stepOf}
+use Rattle.lines.specs.Turns.{Next, answeredState, line, nextTurn, stepped, stepOf}
 use Rattle.lines.specs.declared.turns.State.{State}
 use Rattle.lines.specs.declared.turns.Turn.{Turn}
 use Rattle.lines.specs.declared.turns.Turn.the-variants.{Line, Write, Read, End}
