@@ -20,7 +20,6 @@ distance p q = lengthOf (sub binary64 (p .x) (q .x)) (sub binary64 (p .y) (q .y)
 -- less than f64::EPSILON, it is out itself
 
 -- f64::EPSILON: the least double above 1, less 1
-
 abbrev pub epsilon : Float
 epsilon = ofBits binary64 0x3cb0000000000000
 
