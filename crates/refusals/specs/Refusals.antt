@@ -5,7 +5,7 @@ use mathlib.Core.Option.{Option, some}
 use Rattle.refusals.specs.declared.Answer.{Answer}
 use Rattle.refusals.specs.declared.Answer.the-variants.{Done, Refused}
 use Rattle.refusals.specs.declared.Refusal.{Refusal}
-use Rattle.refusals.specs.declared.Refusal.the-variants.{BadSize, TooMany, BadPoint, TooFew, BadTolerance, BadFlags, BadSettings, NoWay, Stuck, NoRoom, BadFrame}
+use Rattle.refusals.specs.declared.Refusal.the-variants.{BadSize, TooMany, BadPoint, TooFew, BadTolerance, BadFlags, BadSettings, NoWay, Stuck, NoRoom, BadFrame, BadPicture}
 
 -- the number of a refusal
 abbrev pub refusalNumber : Refusal → ℕ
@@ -20,6 +20,7 @@ refusalNumber NoWay = 8
 refusalNumber Stuck = 9
 refusalNumber NoRoom = 10
 refusalNumber BadFrame = 11
+refusalNumber BadPicture = 12
 
 -- the number of an answer
 abbrev pub numberOf : Answer → ℕ

@@ -26,9 +26,12 @@ pub enum Refusal {
     NoRoom,
     // A line is no frame.
     BadFrame,
+    // A file is no picture: its header is wrong, a byte of a plain raster is, or pixels are missing.
+    BadPicture,
 }
 
-// The answer of a call that fills a lent buffer: how many points it put there, or why it put none.
+// The answer of a call that fills a lent buffer: how many points it put there (of a picture, bytes), or why it
+// put none.
 pub enum Answer {
     Done(usize),
     Refused(Refusal),
@@ -51,6 +54,7 @@ impl Refusal {
             Refusal::Stuck => 9,
             Refusal::NoRoom => 10,
             Refusal::BadFrame => 11,
+            Refusal::BadPicture => 12,
         }
     }
 }

@@ -1,0 +1,1 @@
+-- What follows of the contracts.

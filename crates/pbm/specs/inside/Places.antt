@@ -1,0 +1,47 @@
+-- What the functions of this crate promise one another: places of a file in place of what is left of it. Nobody need believe it.
+use Prim.Native.Nat.{ℕ, _-_, _*_, min}
+use mathlib.Core.Bool.{Bool, true, false}
+use mathlib.Core.List.{List, []}
+use mathlib.Core.Option.{Option, some, none}
+use lib.ListN.{length}
+use Rattle.bitmap.specs.declared.Chart.{Chart}
+use Rattle.pbm.specs.Header.{Number, Header, headerIn}
+use Rattle.pbm.specs.Raster.{Image, Digits, rawIn, plainIn}
+use Rattle.pbm.specs.declared.header.Head.{Head}
+use Rattle.pbm.specs.declared.header.Head.the-variants as Head
+use Rattle.pbm.specs.declared.header.Place.{Place}
+use Rattle.pbm.specs.declared.header.Place.the-variants as Place
+
+-- the place of a file at which so much of it is left
+abbrev pub placeOf : List ℕ → Option (List ℕ) → Place
+placeOf file none = Place.Nowhere
+placeOf file (some rest) = Place.At (length file - length rest)
+
+-- 513 stands for every size out of range past 512
+abbrev pub cut : Chart → Chart
+cut c = record { width = min (c .width) 513; height = min (c .height) 513 }
+
+abbrev pub headOf : List ℕ → Option Header → Head
+headOf file none = Head.Not
+headOf file (some h) = Head.Is (record { plain = h .plain; chart = cut (h .chart); end = length file - length (h .rest) })
+
+abbrev pub behindDigits : Option Digits → Option (List ℕ)
+behindDigits none = none
+behindDigits (some d) = some (d .rest)
+
+abbrev pub behindImage : Option Image → Option (List ℕ)
+behindImage none = none
+behindImage (some i) = some (i .rest)
+
+abbrev pub imageOf : Bool → Chart → List ℕ → Option Image
+imageOf true c raster = plainIn c raster
+imageOf false c raster = rawIn c raster
+
+-- the pixels of a plain raster that is whole
+abbrev pub bitsOf : Option Digits → List Bool
+bitsOf none = []
+bitsOf (some d) = d .bits
+
+abbrev pub whole : Option Digits → Bool
+whole none = false
+whole (some d) = true

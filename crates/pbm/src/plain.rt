@@ -1,0 +1,90 @@
+// The digits of a plain raster: judged first, then put into a chart.
+ghost use Prim.Native.Nat.{_+_, _*_, _≤_};
+ghost use mathlib.Core.Bool.{true, false};
+ghost use mathlib.Core.Path.{_≡_};
+ghost use lib.ListN.{length, getD, drop};
+ghost use Rattle.laws.specs.Lists.{over};
+ghost use Rattle.bitmap.specs.Pixels.{rowBytes, side};
+ghost use Rattle.pbm.specs.Bytes.{chartBytes};
+ghost use Rattle.pbm.specs.Raster.{digitsIn};
+ghost use Rattle.pbm.specs.inside.Places.{placeOf, behindDigits, bitsOf, whole};
+use crate::header::Place;
+use crate::header::white;
+use bitmap::Chart;
+
+// Some pixels of one byte, and the place behind the last of them.
+struct Gathered {
+    byte: u8,
+    end: usize,
+}
+
+// The place behind `n` digits, with white space before each or not; nowhere, if another byte stands before
+// the last of them or the file ends.
+pub(crate) fn digits_end(file: &[u8], from: usize, n: usize) -> Place
+    requires { ⌜ from ≤ length (now file) ⌝ }
+    ensures { λ r. ⌜ r ≡ placeOf (now (file .entry)) (behindDigits (digitsIn n (drop from (now (file .entry))))) ⌝ }
+{
+    let mut left = n;
+    let mut i = from;
+    while 0 < left {
+        if file.len() <= i {
+            return Place::Nowhere;
+        }
+        if is_pixel(file[i]) {
+            left -= 1;
+        } else if !white(file[i]) {
+            return Place::Nowhere;
+        }
+        i += 1;
+    }
+    Place::At(i)
+}
+
+// Puts the pixels of all rows into a chart's bytes; they are all there.
+pub(crate) fn pack_rows(file: &[u8], from: usize, chart: Chart, pixels: &mut [u8])
+    requires { ⌜ (side (chart .width) ≡ true) × (side (chart .height) ≡ true) × (rowBytes (chart .width) * chart .height ≤ length (now pixels))
+        × (whole (digitsIn (chart .width * chart .height) (drop from (now file))) ≡ true) ⌝ }
+    ensures { λ _. ⌜ now (pixels .exit) ≡ over (chartBytes chart
+        (λ x y. getD (bitsOf (digitsIn (chart .width * chart .height) (drop from (now (file .entry))))) (y * chart .width + x) false)) (now (pixels .entry)) ⌝ }
+{
+    let row = chart::row_bytes(chart.width);
+    let last = chart.width - (row - 1) * 8;
+    let bytes = row * chart.height;
+    let mut at = from;
+    let mut column = 0;
+    let mut i = 0;
+    while i < bytes {
+        column += 1;
+        let mut n = 8;
+        if column == row {
+            n = last;
+            column = 0;
+        }
+        let gathered = gather(file, at, n);
+        pixels[i] = gathered.byte;
+        at = gathered.end;
+        i += 1;
+    }
+}
+
+// Gathers `n` digits, at most eight, into the high bits of a byte.
+fn gather(file: &[u8], from: usize, n: usize) -> Gathered {
+    let mut byte = 0;
+    let mut left = n;
+    let mut i = from;
+    while 0 < left {
+        if !white(file[i]) {
+            byte = byte * 2 + (file[i] - b'0');
+            left -= 1;
+        }
+        i += 1;
+    }
+    Gathered {
+        byte: byte << (8 - n),
+        end: i,
+    }
+}
+
+fn is_pixel(b: u8) -> bool {
+    (b == b'0') | (b == b'1')
+}
