@@ -1,8 +1,11 @@
 // How a picture begins, plain or raw: the magic number, two sizes, and what parts them from the raster.
+ghost use Prim.Native.Nat.{_+_, _-_, _*_, _≤_, min};
+ghost use mathlib.Core.Bool.{true, false, _||_};
+ghost use mathlib.Core.Option.{some};
 ghost use mathlib.Core.Path.{_≡_};
-ghost use lib.ListN.{drop};
-ghost use Rattle.pbm.specs.Header.{white, lineEnd, hash, digit, headerIn, rasterIn};
-ghost use Rattle.pbm.specs.inside.Places.{placeOf, headOf};
+ghost use lib.ListN.{length, drop};
+ghost use Rattle.pbm.specs.Header.{white, lineEnd, hash, digit, begins, commented, behind, digitsFrom, sizeIn, sizesIn, headerIn, pastLine, rasterIn};
+ghost use Rattle.pbm.specs.inside.Places.{placeOf, sizeOf, headOf};
 use bitmap::Chart;
 
 // A size past this is out of range, whatever its other digits are.
@@ -51,7 +54,9 @@ pub(crate) fn read_header(file: &[u8]) -> Head
 }
 
 // Reads the two sizes behind the magic number.
-fn sizes(file: &[u8], plain: bool) -> Head {
+fn sizes(file: &[u8], plain: bool) -> Head
+    ensures { λ r. ⌜ r ≡ headOf (now (file .entry)) (sizesIn plain (drop 2 (now (file .entry)))) ⌝ }
+{
     let Size::Is {
         value: width,
         end: middle,
@@ -74,7 +79,9 @@ fn sizes(file: &[u8], plain: bool) -> Head {
 }
 
 // Reads a size behind white space or comments.
-fn read_size(file: &[u8], from: usize) -> Size {
+fn read_size(file: &[u8], from: usize) -> Size
+    ensures { λ r. ⌜ r ≡ sizeOf (now (file .entry)) (sizeIn (drop from (now (file .entry)))) ⌝ }
+{
     if !parted(file, from) {
         return Size::Not;
     }
@@ -86,14 +93,18 @@ fn read_size(file: &[u8], from: usize) -> Size {
 }
 
 // Whether white space or a comment begins at a place.
-fn parted(file: &[u8], at: usize) -> bool {
+fn parted(file: &[u8], at: usize) -> bool
+    ensures { λ r. ⌜ r ≡ (begins white (drop at (now (file .entry))) || begins hash (drop at (now (file .entry)))) ⌝ }
+{
     if file.len() <= at {
         return false;
     }
     white(file[at]) | hash(file[at])
 }
 
-fn digit_at(file: &[u8], at: usize) -> bool {
+fn digit_at(file: &[u8], at: usize) -> bool
+    ensures { λ r. ⌜ r ≡ begins digit (drop at (now (file .entry))) ⌝ }
+{
     if file.len() <= at {
         return false;
     }
@@ -101,7 +112,10 @@ fn digit_at(file: &[u8], at: usize) -> bool {
 }
 
 // Reads the digits from a place on, as many as there are.
-fn digits(file: &[u8], from: usize) -> Size {
+fn digits(file: &[u8], from: usize) -> Size
+    requires { ⌜ from ≤ length (now file) ⌝ }
+    ensures { λ r. ⌜ r ≡ sizeOf (now (file .entry)) (some (digitsFrom 0 (drop from (now (file .entry))))) ⌝ }
+{
     let mut value = 0;
     let mut i = from;
     while i < file.len() {
@@ -115,13 +129,18 @@ fn digits(file: &[u8], from: usize) -> Size {
 }
 
 // A size with one digit more.
-fn longer(value: usize, digit: u8) -> usize {
-    let more = value * 10 + (digit - b'0') as usize;
+fn longer(value: usize, b: u8) -> usize
+    requires { ⌜ (value ≤ 513) × (digit b ≡ true) ⌝ }
+    ensures { λ r. ⌜ r ≡ min (value * 10 + (b - 48)) 513 ⌝ }
+{
+    let more = value * 10 + (b - b'0') as usize;
     if OVER < more { OVER } else { more }
 }
 
 // The place behind white space and comments.
-fn behind(file: &[u8], from: usize) -> usize {
+fn behind(file: &[u8], from: usize) -> usize
+    ensures { λ r. ⌜ drop r (now (file .entry)) ≡ behind false (drop from (now (file .entry))) ⌝ }
+{
     let mut comment = false;
     let mut i = from;
     while i < file.len() {
@@ -136,12 +155,16 @@ fn behind(file: &[u8], from: usize) -> usize {
 }
 
 // Whether a byte stands in a comment, begins one or is white space.
-fn passed(comment: bool, b: u8) -> bool {
+fn passed(comment: bool, b: u8) -> bool
+    ensures { λ r. ⌜ r ≡ (comment || white b || hash b) ⌝ }
+{
     comment | white(b) | hash(b)
 }
 
 // Whether a comment is open behind a byte.
-fn commented(comment: bool, b: u8) -> bool {
+fn commented(comment: bool, b: u8) -> bool
+    ensures { λ r. ⌜ r ≡ commented comment b ⌝ }
+{
     if comment { !line_end(b) } else { hash(b) }
 }
 
@@ -162,7 +185,10 @@ pub(crate) fn raster(file: &[u8], from: usize) -> Place
 }
 
 // The place behind the end of a line; that of the file, where the line does not end.
-fn past_line(file: &[u8], from: usize) -> usize {
+fn past_line(file: &[u8], from: usize) -> usize
+    requires { ⌜ from ≤ length (now file) ⌝ }
+    ensures { λ r. ⌜ r ≡ length (now (file .entry)) - length (pastLine (drop from (now (file .entry)))) ⌝ }
+{
     let mut i = from;
     while i < file.len() {
         i += 1;

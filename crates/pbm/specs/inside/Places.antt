@@ -9,6 +9,8 @@ use Rattle.pbm.specs.Header.{Number, Header, headerIn}
 use Rattle.pbm.specs.Raster.{Image, Digits, rawIn, plainIn}
 use Rattle.pbm.specs.declared.header.Head.{Head}
 use Rattle.pbm.specs.declared.header.Head.the-variants as Head
+use Rattle.pbm.specs.declared.header.Size.{Size}
+use Rattle.pbm.specs.declared.header.Size.the-variants as Size
 use Rattle.pbm.specs.declared.header.Place.{Place}
 use Rattle.pbm.specs.declared.header.Place.the-variants as Place
 
@@ -20,6 +22,10 @@ placeOf file (some rest) = Place.At (length file - length rest)
 -- 513 stands for every size out of range past 512
 abbrev pub cut : Chart → Chart
 cut c = record { width = min (c .width) 513; height = min (c .height) 513 }
+
+abbrev pub sizeOf : List ℕ → Option Number → Size
+sizeOf file none = Size.Not
+sizeOf file (some n) = Size.Is (min (n .value) 513) (length file - length (n .rest))
 
 abbrev pub headOf : List ℕ → Option Header → Head
 headOf file none = Head.Not

@@ -1,0 +1,11 @@
+use mathlib.Core.Path.{refl}
+use Rattle.pbm.specs.Header.{white, lineEnd, hash, digit}
+use Rattle.pbm.proofs.header.white.Statement.{statement}
+use Rattle.pbm.proofs.header.white.Tie as tie
+
+returns : tie.Need-returns
+unfolding white lineEnd hash digit
+returns c = refl
+
+pub white-spec : {M : Type 1} → statement M
+white-spec = tie.close (tie.spec returns)
