@@ -99,7 +99,8 @@ fn parted(file: &[u8], at: usize) -> bool
     if file.len() <= at {
         return false;
     }
-    white(file[at]) | hash(file[at])
+    let b = file[at];
+    white(b) | hash(b)
 }
 
 fn digit_at(file: &[u8], at: usize) -> bool
@@ -119,10 +120,11 @@ fn digits(file: &[u8], from: usize) -> Size
     let mut value = 0;
     let mut i = from;
     while i < file.len() {
-        if !digit(file[i]) {
+        let b = file[i];
+        if !digit(b) {
             return Size::Is { value, end: i };
         }
-        value = longer(value, file[i]);
+        value = longer(value, b);
         i += 1;
     }
     Size::Is { value, end: i }
@@ -175,10 +177,11 @@ pub(crate) fn raster(file: &[u8], from: usize) -> Place
     if file.len() <= from {
         return Place::Nowhere;
     }
-    if white(file[from]) {
+    let b = file[from];
+    if white(b) {
         return Place::At(from + 1);
     }
-    if file[from] == b'#' {
+    if hash(b) {
         return Place::At(past_line(file, from + 1));
     }
     Place::Nowhere
@@ -191,8 +194,9 @@ fn past_line(file: &[u8], from: usize) -> usize
 {
     let mut i = from;
     while i < file.len() {
+        let b = file[i];
         i += 1;
-        if line_end(file[i - 1]) {
+        if line_end(b) {
             return i;
         }
     }

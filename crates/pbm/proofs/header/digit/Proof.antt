@@ -1,10 +1,11 @@
+-- `pbm::header::digit` meets its contract: the tests are those of the definition. Assumes nothing.
 use mathlib.Core.Path.{refl}
-use Rattle.pbm.specs.Header.{white, lineEnd, hash, digit}
+use Rattle.pbm.specs.Header.{digit}
 use Rattle.pbm.proofs.header.digit.Statement.{statement}
 use Rattle.pbm.proofs.header.digit.Tie as tie
 
 returns : tie.Need-returns
-unfolding white lineEnd hash digit
+unfolding digit
 returns c = refl
 
 pub digit-spec : {M : Type 1} → statement M

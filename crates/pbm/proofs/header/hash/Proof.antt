@@ -1,10 +1,11 @@
+-- `pbm::header::hash` meets its contract: the tests are those of the definition. Assumes nothing.
 use mathlib.Core.Path.{refl}
-use Rattle.pbm.specs.Header.{white, lineEnd, hash, digit}
+use Rattle.pbm.specs.Header.{hash}
 use Rattle.pbm.proofs.header.hash.Statement.{statement}
 use Rattle.pbm.proofs.header.hash.Tie as tie
 
 returns : tie.Need-returns
-unfolding white lineEnd hash digit
+unfolding hash
 returns c = refl
 
 pub hash-spec : {M : Type 1} → statement M

@@ -1,10 +1,11 @@
+-- `pbm::header::line_end` meets its contract: the tests are those of the definition. Assumes nothing.
 use mathlib.Core.Path.{refl}
-use Rattle.pbm.specs.Header.{white, lineEnd, hash, digit}
+use Rattle.pbm.specs.Header.{lineEnd}
 use Rattle.pbm.proofs.header.line_end.Statement.{statement}
 use Rattle.pbm.proofs.header.line_end.Tie as tie
 
 returns : tie.Need-returns
-unfolding white lineEnd hash digit
+unfolding lineEnd
 returns c = refl
 
 pub line-end-spec : {M : Type 1} → statement M

@@ -1,10 +1,11 @@
+-- `pbm::header::white` meets its contract: the tests are those of the definition. Assumes nothing.
 use mathlib.Core.Path.{refl}
-use Rattle.pbm.specs.Header.{white, lineEnd, hash, digit}
+use Rattle.pbm.specs.Header.{white}
 use Rattle.pbm.proofs.header.white.Statement.{statement}
 use Rattle.pbm.proofs.header.white.Tie as tie
 
 returns : tie.Need-returns
-unfolding white lineEnd hash digit
+unfolding white
 returns c = refl
 
 pub white-spec : {M : Type 1} → statement M
