@@ -1,7 +1,8 @@
 // The digits of a plain raster: judged first, then put into a chart.
 ghost use Prim.Native.Nat.{_+_, _*_, _≤_};
-ghost use mathlib.Core.Bool.{true, false};
+ghost use mathlib.Core.Bool.{true, false, _||_};
 ghost use mathlib.Core.Path.{_≡_};
+ghost use lib.Dec.{eqb};
 ghost use lib.ListN.{length, getD, drop};
 ghost use Rattle.laws.specs.Lists.{over};
 ghost use Rattle.bitmap.specs.Pixels.{rowBytes, side};
@@ -30,12 +31,13 @@ pub(crate) fn digits_end(file: &[u8], from: usize, n: usize) -> Place
         if file.len() <= i {
             return Place::Nowhere;
         }
-        if is_pixel(file[i]) {
+        let b = file[i];
+        i += 1;
+        if is_pixel(b) {
             left -= 1;
-        } else if !white(file[i]) {
+        } else if !white(b) {
             return Place::Nowhere;
         }
-        i += 1;
     }
     Place::At(i)
 }
@@ -85,6 +87,8 @@ fn gather(file: &[u8], from: usize, n: usize) -> Gathered {
     }
 }
 
-fn is_pixel(b: u8) -> bool {
+fn is_pixel(b: u8) -> bool
+    ensures { λ r. ⌜ r ≡ (eqb b 48 || eqb b 49) ⌝ }
+{
     (b == b'0') | (b == b'1')
 }
