@@ -1,13 +1,16 @@
 // A picture read into a chart.
-ghost use Prim.Native.Nat.{_≤_};
+ghost use Prim.Native.Nat.{_*_, _≤_};
 ghost use mathlib.Core.Bool.{true, not, _||_};
 ghost use mathlib.Core.Path.{_≡_};
 ghost use lib.ListN.{length, drop};
-ghost use Rattle.bitmap.specs.Pixels.{side};
-ghost use Rattle.pbm.specs.Calls.{readOf};
-ghost use Rattle.pbm.specs.inside.Places.{placeOf, behindImage, imageOf};
+ghost use Rattle.laws.specs.Lists.{over};
+ghost use Rattle.bitmap.specs.Pixels.{rowBytes, side};
+ghost use Rattle.pbm.specs.Bytes.{chartBytes};
+ghost use Rattle.pbm.specs.Calls.{readBehind, readOf};
+ghost use Rattle.pbm.specs.inside.Places.{placeOf, headerAt, imageOf, behindImage, hasImage, setOf};
 use crate::Picture;
 use crate::header::Head;
+use crate::header::Header;
 use crate::header::Place;
 use crate::header::raster;
 use crate::header::read_header;
@@ -24,6 +27,13 @@ pub fn read_pbm(file: &[u8], pixels: &mut [u8]) -> Picture
     let Head::Is(head) = read_header(file) else {
         return Picture::Refused(Refusal::BadPicture);
     };
+    read_behind(file, head, pixels)
+}
+
+// Reads on behind a header: its sizes are judged first.
+fn read_behind(file: &[u8], head: Header, pixels: &mut [u8]) -> Picture
+    ensures { λ r. ⌜ record { answer = r; pixels = now (pixels .exit) } ≡ readBehind (now (file .entry)) (headerAt (now (file .entry)) head) (now (pixels .entry)) ⌝ }
+{
     let chart = head.chart;
     if bad_sides(chart) {
         return Picture::Refused(Refusal::BadSize);
@@ -34,14 +44,10 @@ pub fn read_pbm(file: &[u8], pixels: &mut [u8]) -> Picture
     let Place::At(end) = image_end(file, from, head.plain, chart) else {
         return Picture::Refused(Refusal::BadPicture);
     };
-    if pixels.len() < chart::row_bytes(chart.width) * chart.height {
+    if pixels.len() < all_bytes(chart) {
         return Picture::Refused(Refusal::NoRoom);
     }
-    if head.plain {
-        pack_rows(file, from, chart, pixels);
-    } else {
-        copy_rows(chart, &file[from..], pixels, 0);
-    }
+    lay(file, from, head.plain, chart, pixels);
     Picture::Read { chart, bytes: end }
 }
 
@@ -57,6 +63,14 @@ fn side(size: usize) -> bool
     (1 <= size) & (size <= 512)
 }
 
+// How many bytes a chart takes.
+fn all_bytes(chart: Chart) -> usize
+    requires { ⌜ (side (chart .width) ≡ true) × (side (chart .height) ≡ true) ⌝ }
+    ensures { λ r. ⌜ r ≡ rowBytes (chart .width) * chart .height ⌝ }
+{
+    chart::row_bytes(chart.width) * chart.height
+}
+
 // The place behind the image; nowhere, if it is not whole.
 fn image_end(file: &[u8], from: usize, plain: bool, chart: Chart) -> Place
     requires { ⌜ (side (chart .width) ≡ true) × (side (chart .height) ≡ true) × (from ≤ length (now file)) ⌝ }
@@ -65,9 +79,22 @@ fn image_end(file: &[u8], from: usize, plain: bool, chart: Chart) -> Place
     if plain {
         return digits_end(file, from, chart.width * chart.height);
     }
-    let bytes = chart::row_bytes(chart.width) * chart.height;
+    let bytes = all_bytes(chart);
     if file.len() - from < bytes {
         return Place::Nowhere;
     }
     Place::At(from + bytes)
+}
+
+// Lays an image that is whole over the start of `pixels`.
+fn lay(file: &[u8], from: usize, plain: bool, chart: Chart, pixels: &mut [u8])
+    requires { ⌜ (side (chart .width) ≡ true) × (side (chart .height) ≡ true) × (rowBytes (chart .width) * chart .height ≤ length (now pixels))
+        × (from ≤ length (now file)) × (hasImage (imageOf plain chart (drop from (now file))) ≡ true) ⌝ }
+    ensures { λ _. ⌜ now (pixels .exit) ≡ over (chartBytes chart (setOf (imageOf plain chart (drop from (now (file .entry)))))) (now (pixels .entry)) ⌝ }
+{
+    if plain {
+        pack_rows(file, from, chart, pixels);
+        return;
+    }
+    copy_rows(chart, &file[from..], pixels, 0);
 }

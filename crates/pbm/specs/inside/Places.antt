@@ -3,10 +3,11 @@ use Prim.Native.Nat.{ℕ, _-_, _*_, min}
 use mathlib.Core.Bool.{Bool, true, false}
 use mathlib.Core.List.{List, []}
 use mathlib.Core.Option.{Option, some, none}
-use lib.ListN.{length}
+use lib.ListN.{length, drop}
 use Rattle.bitmap.specs.declared.Chart.{Chart}
 use Rattle.pbm.specs.Header.{Number, Header, headerIn}
 use Rattle.pbm.specs.Raster.{Image, Digits, rawIn, plainIn}
+use Rattle.pbm.specs.declared.header.Header as Read
 use Rattle.pbm.specs.declared.header.Head.{Head}
 use Rattle.pbm.specs.declared.header.Head.the-variants as Head
 use Rattle.pbm.specs.declared.header.Size.{Size}
@@ -31,6 +32,10 @@ abbrev pub headOf : List ℕ → Option Header → Head
 headOf file none = Head.Not
 headOf file (some h) = Head.Is (record { plain = h .plain; chart = cut (h .chart); end = length file - length (h .rest) })
 
+-- a header that was read, with what is left behind it
+abbrev pub headerAt : List ℕ → Read.Header → Header
+headerAt file h = record { plain = h .plain; chart = h .chart; rest = drop (h .end) file }
+
 abbrev pub behindDigits : Option Digits → Option (List ℕ)
 behindDigits none = none
 behindDigits (some d) = some (d .rest)
@@ -38,6 +43,14 @@ behindDigits (some d) = some (d .rest)
 abbrev pub behindImage : Option Image → Option (List ℕ)
 behindImage none = none
 behindImage (some i) = some (i .rest)
+
+abbrev pub hasImage : Option Image → Bool
+hasImage none = false
+hasImage (some i) = true
+
+abbrev pub setOf : Option Image → ℕ → ℕ → Bool
+setOf none = λ x y. false
+setOf (some i) = i .set
 
 abbrev pub imageOf : Bool → Chart → List ℕ → Option Image
 imageOf true c raster = plainIn c raster
