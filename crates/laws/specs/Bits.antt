@@ -65,7 +65,7 @@ ones-high j k n h =
     ∙ ones-is j (n / 2 ^ k) (shr-lt j k h)
 
 -- that mask as code makes it, all ones of a word of w digits shifted up (`255 << (8 - j)` for a byte): of the j highest digits
-high-mask : (w k : ℕ) → k ≤ w → (2 ^ w - 1) * 2 ^ k % 2 ^ w ≡ 2 ^ w - 2 ^ k
+pub high-mask : (w k : ℕ) → k ≤ w → (2 ^ w - 1) * 2 ^ k % 2 ^ w ≡ 2 ^ w - 2 ^ k
 high-mask w k h =
     let m = 2 ^ w in
     let l : 2 ^ k ≤ m = pow-mono h in
