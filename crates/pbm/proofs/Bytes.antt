@@ -128,10 +128,10 @@ listed-pasted n f old at i h l =
 
 module _ (c : Chart) (set : ℕ → ℕ → Bool) where
   -- column x of row y as a byte has it: past the last column nothing is set
-  abbrev shown : ℕ → ℕ → Bool
+  abbrev pub shown : ℕ → ℕ → Bool
   shown x y = ltb x (c .width) && set x y
 
-  byteAt-is : (i : ℕ) → byteAt c set i ≡ packed 8 (λ j. shown (i % rowBytes (c .width) * 8 + j) (i / rowBytes (c .width)))
+  pub byteAt-is : (i : ℕ) → byteAt c set i ≡ packed 8 (λ j. shown (i % rowBytes (c .width) * 8 + j) (i / rowBytes (c .width)))
   unfolding byteAt
   byteAt-is i = refl
 
