@@ -37,6 +37,21 @@ pub neither : (b : ℕ) → white b ≡ false → (eqb b 48 || eqb b 49) ≡ fal
 unfolding signOf
 neither b h k = let p = both-false (eqb b 48) (eqb b 49) k in rw (h, signOf, p .0, p .1)
 
+-- a byte that is neither blank nor wrong
+pub digit-if : (b : ℕ) → white b ≡ false → (signOf b ≡ wrong → ⊥) → (eqb b 48 || eqb b 49) ≡ true
+digit-if b w h = go (eqb b 48 || eqb b 49) refl
+  where
+    go : (t : Bool) → (eqb b 48 || eqb b 49) ≡ t → t ≡ true
+    go true e = refl
+    go false e = absurd (h (neither b w e))
+
+pub digit-value : (b : ℕ) → (eqb b 48 || eqb b 49) ≡ true → b ≡ 48 + one (eqb b 49)
+digit-value b h = go (eqb b 48) refl h
+  where
+    go : (z : Bool) → eqb b 48 ≡ z → (z || eqb b 49) ≡ true → b ≡ 48 + one (eqb b 49)
+    go true e k = let z : b ≡ 48 = eqb-true b 48 e in rw z
+    go false e k = rw k (eqb-true b 49 k)
+
 -- ---- a byte in front
 
 module _ (n b : ℕ) (bs : List ℕ) where
@@ -107,6 +122,22 @@ behind-skip k (some d) = refl
 pub bits-skip : (k j : ℕ) (d : Option Digits) → getD (bitsOf (skip k d)) j false ≡ getD (bitsOf d) (k + j) false
 bits-skip k j none = refl
 bits-skip k j (some d) = getD-drop k (d .bits) j false
+
+-- where s comes next, the others follow it, and it is digit k
+module _ (k : ℕ) (s : Bool) (others d : Option Digits) (next : onto s others ≡ skip k d) where
+  pub next-others : others ≡ skip (k + 1) d
+  next-others = sym (skip-zero others) ∙ sym (skip-onto 0 s others) ∙ ap (skip 1) next ∙ skip-skip 1 k d
+
+  pub next-bit : whole d ≡ true → getD (bitsOf d) k false ≡ s
+  next-bit there =
+      ap (λ (n : ℕ). getD (bitsOf d) n false) (sym (add-zero k))
+      ∙ sym (bits-skip k 0 d)
+      ∙ sym (ap (λ (x : Option Digits). getD (bitsOf x) 0 false) next)
+      ∙ first others (ap whole next ∙ whole-skip k d ∙ there)
+    where
+      first : (x : Option Digits) → whole (onto s x) ≡ true → getD (bitsOf (onto s x)) 0 false ≡ s
+      first none h = absurd (false≢true h)
+      first (some e) h = refl
 
 -- ---- n digits, and m from where they end
 

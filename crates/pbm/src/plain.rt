@@ -1,12 +1,13 @@
 // The digits of a plain raster: judged first, then put into a chart.
-ghost use Prim.Native.Nat.{_+_, _*_, _≤_};
+ghost use Prim.Native.Nat.{_+_, _-_, _*_, _^_, _≤_};
 ghost use mathlib.Core.Bool.{true, false, _||_};
+ghost use mathlib.Core.Option.{some};
 ghost use mathlib.Core.Path.{_≡_};
 ghost use lib.Dec.{eqb};
 ghost use lib.ListN.{length, getD, drop};
 ghost use Rattle.laws.specs.Lists.{over};
 ghost use Rattle.bitmap.specs.Pixels.{rowBytes, side};
-ghost use Rattle.pbm.specs.Bytes.{chartBytes};
+ghost use Rattle.pbm.specs.Bytes.{packed, chartBytes};
 ghost use Rattle.pbm.specs.Raster.{digitsIn};
 ghost use Rattle.pbm.specs.inside.Places.{placeOf, behindDigits, bitsOf, whole};
 use crate::header::Place;
@@ -69,17 +70,22 @@ pub(crate) fn pack_rows(file: &[u8], from: usize, chart: Chart, pixels: &mut [u8
     }
 }
 
-// Gathers `n` digits, at most eight, into the high bits of a byte.
-fn gather(file: &[u8], from: usize, n: usize) -> Gathered {
+// Gathers `n` digits, which are there and at most eight, into the high bits of a byte.
+fn gather(file: &[u8], from: usize, n: usize) -> Gathered
+    requires { ⌜ (1 ≤ n) × (n ≤ 8) × (whole (digitsIn n (drop from (now file))) ≡ true) ⌝ }
+    ensures { λ r. ⌜ (r .byte ≡ packed n (λ j. getD (bitsOf (digitsIn n (drop from (now (file .entry))))) j false) * 2 ^ (8 - n))
+        × (behindDigits (digitsIn n (drop from (now (file .entry)))) ≡ some (drop (r .end) (now (file .entry)))) ⌝ }
+{
     let mut byte = 0;
     let mut left = n;
     let mut i = from;
     while 0 < left {
-        if !white(file[i]) {
-            byte = byte * 2 + (file[i] - b'0');
+        let b = file[i];
+        i += 1;
+        if !white(b) {
+            byte = byte * 2 + (b - b'0');
             left -= 1;
         }
-        i += 1;
     }
     Gathered {
         byte: byte << (8 - n),
