@@ -19,3 +19,4 @@ pub use pixels::bad_chart;
 pub use pixels::inside;
 pub use pixels::pixel;
 pub use pixels::row_bytes;
+pub use pixels::side;

@@ -54,13 +54,7 @@ fn read_behind(file: &[u8], head: Header, pixels: &mut [u8]) -> Picture
 fn bad_sides(chart: Chart) -> bool
     ensures { λ r. ⌜ r ≡ (not (side (chart .width)) || not (side (chart .height))) ⌝ }
 {
-    !(side(chart.width) & side(chart.height))
-}
-
-fn side(size: usize) -> bool
-    ensures { λ r. ⌜ r ≡ side size ⌝ }
-{
-    (1 <= size) & (size <= 512)
+    !(chart::side(chart.width) & chart::side(chart.height))
 }
 
 // How many bytes a chart takes.

@@ -5,3 +5,4 @@ pub use lookup::bad_chart;
 pub use lookup::inside;
 pub use lookup::pixel;
 pub use lookup::row_bytes;
+pub use lookup::side;

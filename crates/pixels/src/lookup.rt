@@ -22,7 +22,7 @@ pub fn bad_chart(chart: Chart, pixels: &[u8]) -> bool
 }
 
 // Whether a chart may be so wide, or so high.
-fn side(size: usize) -> bool
+pub fn side(size: usize) -> bool
     ensures { λ r. ⌜ r ≡ side size ⌝ }
 {
     1 <= size && size <= LONGEST
