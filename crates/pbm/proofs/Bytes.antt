@@ -152,7 +152,7 @@ module _ (c : Chart) (set : ℕ → ℕ → Bool) where
 -- ---- the byte of column x of row y, for a row of b bytes
 
 module _ (b x y : ℕ) (column : x < b * 8) where
-  byte-below : (height : ℕ) → y < height → y * b + x / 8 < b * height
+  pub byte-below : (height : ℕ) → y < height → y * b + x / 8 < b * height
   byte-below height row =
       let h : suc y * b ≤ height * b = mul-le-mul-right b row in
       omega (arith, h, suc-mul y b, mul-comm b height)
