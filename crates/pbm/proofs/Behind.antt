@@ -8,6 +8,7 @@ use native.Mathlib.Omega.{arith}
 use lib.Dec.{ltb}
 use lib.ListN.{length, take, drop, length-append, take-append-drop}
 use lib.Seq.{take-at}
+use borrow.Author.Tests.{ltb-true, ltb-false}
 use Rattle.laws.specs.Joined.{both-false}
 use Rattle.refusals.specs.declared.Refusal.{Refusal}
 use Rattle.refusals.specs.declared.Refusal.the-variants.{BadSize, NoRoom, BadPicture}
@@ -17,8 +18,9 @@ use Rattle.bitmap.proofs.Sizes.{side-within}
 use Rattle.pbm.specs.Header.{Header, headerIn}
 use Rattle.pbm.specs.Raster.{Image, imageIn}
 use Rattle.pbm.specs.Bytes.{chartBytes}
-use Rattle.pbm.specs.Calls.{Outcome, refused, laid, readBehind, readOf}
+use Rattle.pbm.specs.Calls.{Outcome, refused, laid, readOf}
 use Rattle.pbm.specs.declared.Picture.the-variants as Picture
+use Rattle.pbm.proofs.Outcomes.{no-header, a-header, bad-sides, no-image, an-image, no-room, room}
 use Rattle.pbm.proofs.Front.{Front, anything}
 use Rattle.pbm.proofs.HeaderFront.{parted, headed, header-front}
 use Rattle.pbm.proofs.ImageFront.{Seen, seen, showing, image-front, image-is-parted}
@@ -46,31 +48,31 @@ pub data Told (file pixels : List ℕ) : Type 0 where
 -- the definition, where an image is there
 read-is : (file : List ℕ) (h : Header) (image : Image) (pixels : List ℕ) → headerIn file ≡ some h → badSides (h .chart) ≡ false → imageIn h ≡ some image
     → readOf file pixels ≡ laid file (h .chart) image pixels
-unfolding readOf
-read-is file h image pixels e f g = rw (e, readOf, f, readBehind, g)
+read-is file h image pixels e f g = sym (an-image file pixels h f image g ∙ a-header file pixels h e)
 
 -- one of them for any file
 pub told : (file pixels : List ℕ) → Told file pixels
-unfolding readOf
 told file pixels = by-header (headerIn file) refl
   where
     by-room : (h : Header) → headerIn file ≡ some h → badSides (h .chart) ≡ false → (image : Image) → imageIn h ≡ some image
         → (t : Bool) → ltb (length pixels) (rowBytes (h .chart .width) * h .chart .height) ≡ t → Told file pixels
-    by-room h e f image g true room = told-refused NoRoom (rw (e, readOf, f, readBehind, g, room, laid))
-    by-room h e f image g false room =
-        let here : Found file (length file - length (image .rest)) = record { header = h; image = image; begun = e; sized = f; ended = g; counted = refl } in
-        told-read (length file - length (image .rest)) here (rw (e, readOf, f, readBehind, g, room, laid))
+    by-room h e f image g true short =
+        told-refused NoRoom (read-is file h image pixels e f g ∙ sym (no-room file pixels (h .chart) image (ltb-true _ _ short)))
+    by-room h e f image g false enough =
+        told-read (length file - length (image .rest))
+        (record { header = h; image = image; begun = e; sized = f; ended = g; counted = refl })
+        (ap (λ (o : Outcome). o .answer) (read-is file h image pixels e f g ∙ sym (room file pixels (h .chart) image (ltb-false _ _ enough))))
 
     by-image : (h : Header) → headerIn file ≡ some h → badSides (h .chart) ≡ false → (o : Option Image) → imageIn h ≡ o → Told file pixels
-    by-image h e f none g = told-refused BadPicture (rw (e, readOf, f, readBehind, g))
+    by-image h e f none g = told-refused BadPicture (sym (no-image file pixels h f g ∙ a-header file pixels h e))
     by-image h e f (some image) g = by-room h e f image g (ltb (length pixels) (rowBytes (h .chart .width) * h .chart .height)) refl
 
     by-size : (h : Header) → headerIn file ≡ some h → (t : Bool) → badSides (h .chart) ≡ t → Told file pixels
-    by-size h e true f = told-refused BadSize (rw (e, readOf, f, readBehind))
+    by-size h e true f = told-refused BadSize (sym (bad-sides file pixels h f ∙ a-header file pixels h e))
     by-size h e false f = by-image h e f (imageIn h) refl
 
     by-header : (o : Option Header) → headerIn file ≡ o → Told file pixels
-    by-header none e = told-refused BadPicture (rw (e, readOf))
+    by-header none e = told-refused BadPicture (sym (no-header file pixels e))
     by-header (some h) e = by-size h e (badSides (h .chart)) refl
 
 -- two kinds of answer

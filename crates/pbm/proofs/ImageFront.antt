@@ -7,17 +7,17 @@ use mathlib.Core.Option.{Option, some, none, Option·none-ne-some, Option·some-
 use mathlib.Core.Path.{_≡_, refl, sym, ap, _∙_}
 use native.Mathlib.Nat.{mul-pos}
 use native.Mathlib.Omega.{arith}
-use lib.Dec.{ltb}
 use lib.ListN.{length, take, drop, length-append, take-append-drop, List·getD-append}
 use lib.Seq.{length-take-le, drop-at}
-use borrow.Author.Tests.{ltb-false, le-ltb}
 use Rattle.bitmap.specs.Pixels.{rowBytes, cell, bitOf}
 use Rattle.bitmap.specs.declared.Chart.{Chart}
 use Rattle.pbm.specs.Header.{white, lineEnd, hash, Header, pastLine, rasterIn}
 use Rattle.pbm.specs.Raster.{Image, rawIn, Sign, blank, pixel, wrong, signOf, Digits, onto, digitsIn, rowsOf, plainIn, imageIn}
 use Rattle.pbm.specs.Bytes.{chartBytes}
-use Rattle.pbm.specs.inside.Places.{imageOf}
+use Rattle.pbm.specs.inside.Places.{hasImage, imageOf}
 use Rattle.pbm.proofs.Bytes.{byte-below, chartBytes-same}
+use Rattle.pbm.proofs.Digits.{blank-first, pixel-first, wrong-first}
+use Rattle.pbm.proofs.Images.{raw-whole, raw-enough, no-raster, image-of-raster}
 use Rattle.pbm.proofs.Front.{Front, anything, at-once, longer, joined}
 use Rattle.pbm.proofs.HeaderFront.{parted, headed}
 
@@ -86,15 +86,6 @@ raster-is-parted (b ∷ bs) raster is = go (white b) refl (hash b) refl
 
 -- ---- the digits of a plain raster
 
--- the definition, by the kind of a byte
-blank-is-passed : (n b : ℕ) (bs : List ℕ) → signOf b ≡ blank → digitsIn (suc n) (b ∷ bs) ≡ digitsIn (suc n) bs
-unfolding digitsIn
-blank-is-passed n b bs e = rw (e, digitsIn)
-
-pixel-is-taken : (n b : ℕ) (bs : List ℕ) (set : Bool) → signOf b ≡ pixel set → digitsIn (suc n) (b ∷ bs) ≡ onto set (digitsIn n bs)
-unfolding digitsIn
-pixel-is-taken n b bs set e = rw (e, digitsIn)
-
 -- the same pixels with another list left behind them
 abbrev leaving : Digits → List ℕ → Digits
 leaving d o = record { bits = d .bits; rest = o }
@@ -114,20 +105,20 @@ digits-front (suc n) (b ∷ bs) d is = by-sign (signOf b) refl (digits-front (su
   where
     a-pixel : (set : Bool) → signOf b ≡ pixel set → TakesPixels n bs → (o : Option Digits) → digitsIn n bs ≡ o
         → Front (digitsIn (suc n)) (λ o. some (leaving d o)) anything (b ∷ bs) (d .rest)
-    a-pixel set e fewer o f = by-rest o f (ap (onto set) (sym f) ∙ sym (pixel-is-taken n b bs set e) ∙ is)
+    a-pixel set e fewer o f = by-rest o f (ap (onto set) (sym f) ∙ sym (pixel-first n b bs set e) ∙ is)
       where
         by-rest : (o : Option Digits) → digitsIn n bs ≡ o → onto set o ≡ some d
             → Front (digitsIn (suc n)) (λ o. some (leaving d o)) anything (b ∷ bs) (d .rest)
         by-rest none f k = absurd (Option·none-ne-some d k)
         by-rest (some r) f k =
             let same : record { bits = set ∷ r .bits; rest = r .rest } ≡ d = Option·some-injective _ _ k in
-            rw (← same) (longer _ _ b (fewer r f) (λ l o p. pixel-is-taken n b l set e ∙ ap (onto set) p))
+            rw (← same) (longer _ _ b (fewer r f) (λ l o p. pixel-first n b l set e ∙ ap (onto set) p))
 
     by-sign : (s : Sign) → signOf b ≡ s → TakesPixels (suc n) bs → TakesPixels n bs
         → Front (digitsIn (suc n)) (λ o. some (leaving d o)) anything (b ∷ bs) (d .rest)
-    by-sign blank e as-many fewer = longer _ _ b (as-many d (sym (blank-is-passed n b bs e) ∙ is)) (λ l o p. blank-is-passed n b l e ∙ p)
+    by-sign blank e as-many fewer = longer _ _ b (as-many d (sym (blank-first n b bs e) ∙ is)) (λ l o p. blank-first n b l e ∙ p)
     by-sign (pixel set) e as-many fewer = a-pixel set e fewer (digitsIn n bs) refl
-    by-sign wrong e as-many fewer = absurd (Option·none-ne-some d (rw (e, digitsIn) at is))
+    by-sign wrong e as-many fewer = absurd (Option·none-ne-some d (sym (wrong-first n b bs e) ∙ is))
 
 -- ---- an image, by what shows of it in a chart: its bytes, and what is left behind it
 
@@ -180,25 +171,11 @@ module _ (c : Chart) where
           let within : i < length rows = omega arith in
           ap (λ (n : ℕ). bitOf n x) (List·getD-append rows a 0 i within ∙ sym (List·getD-append rows b 0 i within))
 
-  -- the definition, where the rows are there
-  raw-is : (bs : List ℕ) → size ≤ length bs → rawIn c bs ≡ some (record { set = cell c bs; rest = drop size bs })
-  unfolding rawIn
-  raw-is bs h = rw (le-ltb (length bs) size h, rawIn)
-
-  -- and they are, if an image was read
-  all-rows-are-there : (bs : List ℕ) (image : Image) → rawIn c bs ≡ some image → size ≤ length bs
-  unfolding rawIn
-  all-rows-are-there bs image is = go (ltb (length bs) size) refl
-    where
-      go : (t : Bool) → ltb (length bs) size ≡ t → size ≤ length bs
-      go true e = absurd (Option·none-ne-some image (rw (e, rawIn) at is))
-      go false e = ltb-false (length bs) size e
-
   -- what a raw raster takes
   raw-front : (bs : List ℕ) (image : Image) → rawIn c bs ≡ some image → Front (λ l. seen c (rawIn c l)) (showing c image) anything bs (image .rest)
   raw-front bs image is =
-      let enough = all-rows-are-there bs image is in
-      let same : record { set = cell c bs; rest = drop size bs } ≡ image = Option·some-injective _ _ (sym (raw-is bs enough) ∙ is) in
+      let enough = raw-enough c bs (ap hasImage is) in
+      let same : record { set = cell c bs; rest = drop size bs } ≡ image = Option·some-injective _ _ (sym (raw-whole c bs enough) ∙ is) in
       let rows = take size bs in
       let long : length rows ≡ size = length-take-le size bs enough in
       let still : (o : List ℕ) → size ≤ length (rows ++ o) = λ o. omega (arith, length-append rows o) in
@@ -207,7 +184,7 @@ module _ (c : Chart) where
       rw (← same) (record {
         front = rows;
         whole = take-append-drop size bs;
-        again = λ o h. rw (raw-is (rows ++ o) (still o), alike o, drop-at rows o size long);
+        again = λ o h. rw (raw-whole c (rows ++ o) (still o), alike o, drop-at rows o size long);
       })
 
   -- ---- either
@@ -229,41 +206,30 @@ module _ (c : Chart) where
   something-is-read true (b ∷ bs) image is wide high = omega arith
   something-is-read false bs image is wide high =
       let row : 1 ≤ rowBytes (c .width) = omega arith in
-      omega (arith, all-rows-are-there bs image is, mul-pos row high)
+      omega (arith, raw-enough c bs (ap hasImage is), mul-pos row high)
 
 -- ---- behind a header
 
 module _ (h : Header) where
-  -- the definition, where the raster is there
-  image-is : (l raster : List ℕ) → rasterIn l ≡ some raster → imageIn (headed h l) ≡ imageOf (h .plain) (h .chart) raster
-  unfolding imageIn
-  image-is l raster e = rw (e, imageIn) (go (h .plain))
-    where
-      go : (t : Bool) → elim t [ true ↦ plainIn (h .chart) raster | false ↦ rawIn (h .chart) raster ] ≡ imageOf t (h .chart) raster
-      go true = refl
-      go false = refl
-
   -- an image stands behind white space or a comment
   pub image-is-parted : (l : List ℕ) (s : Seen) → seen (h .chart) (imageIn (headed h l)) ≡ some s → parted l ≡ true
-  unfolding imageIn
   image-is-parted l s is = go (rasterIn l) refl
     where
       go : (o : Option (List ℕ)) → rasterIn l ≡ o → parted l ≡ true
-      go none e = absurd (Option·none-ne-some s (rw (e, imageIn) at is))
+      go none e = absurd (Option·none-ne-some s (ap (seen (h .chart)) (sym (no-raster (headed h l) e)) ∙ is))
       go (some raster) e = raster-is-parted l raster e
 
   -- what an image takes, with what parts it from the header
   pub image-front : (image : Image) → imageIn h ≡ some image → 1 ≤ h .chart .width → 1 ≤ h .chart .height
       → Front (λ l. seen (h .chart) (imageIn (headed h l))) (showing (h .chart) image) anything (h .rest) (image .rest)
-  unfolding imageIn
   image-front image is wide high = go (rasterIn (h .rest)) refl
     where
       go : (o : Option (List ℕ)) → rasterIn (h .rest) ≡ o
           → Front (λ l. seen (h .chart) (imageIn (headed h l))) (showing (h .chart) image) anything (h .rest) (image .rest)
-      go none e = absurd (Option·none-ne-some image (rw (e, imageIn) at is))
+      go none e = absurd (Option·none-ne-some image (sym (no-raster h e) ∙ is))
       go (some raster) e =
-          let pixels : imageOf (h .plain) (h .chart) raster ≡ some image = sym (image-is (h .rest) raster e) ∙ is in
+          let pixels : imageOf (h .plain) (h .chart) raster ≡ some image = sym (image-of-raster h raster e) ∙ is in
           let parts = raster-front (h .rest) raster e (something-is-read (h .chart) (h .plain) raster image pixels wide high) in
           joined _ _ parts (pixels-front (h .chart) (h .plain) raster image pixels)
           (λ m o p. refl)
-          (λ l m o p q. ap (seen (h .chart)) (image-is l m p) ∙ q)
+          (λ l m o p q. ap (seen (h .chart)) (image-of-raster (headed h l) m p) ∙ q)
