@@ -1,0 +1,99 @@
+-- A raster that was written is read back, raw or plain, whatever follows it: the image within the chart is the one that was written. Assumes nothing.
+use Prim.Native.Nat.{ℕ, suc, _+_, _*_, _/_, _%_, _≤_, _<_}
+use mathlib.Core.Bool.{Bool, true, false}
+use mathlib.Core.List.{List, [], _∷_, _++_, map}
+use mathlib.Core.Option.{some}
+use mathlib.Core.Path.{_≡_, refl, ap, ap₂, _∙_}
+use native.Mathlib.Nat.{add-comm, add-zero, add-mul-mod-self-right, mod-eq-of-lt, mul-add-div-right, div-eq-of-lt, mul-le-mul-right, suc-mul, mul-comm}
+use native.Mathlib.Omega.{arith}
+use lib.Dec.{eqb}
+use lib.ListN.{length, getD, drop, length-append, List·getD-map}
+use lib.Seq.{drop-at}
+use borrow.Author.Tests.{le-ltb}
+use Rattle.bitmap.specs.Pixels.{rowBytes, cell, one}
+use Rattle.bitmap.specs.declared.Chart.{Chart}
+use Rattle.pbm.specs.Header.{white}
+use Rattle.pbm.specs.Raster.{Image, rawIn, pixel, signOf, digitsIn, rowsOf, plainIn, imageIn}
+use Rattle.pbm.specs.Bytes.{listed, chartBytes}
+use Rattle.pbm.proofs.Bytes.{length-chartBytes, length-listed, listed-at}
+
+-- ---- raw: a chart's bytes
+
+module _ (c : Chart) (set : ℕ → ℕ → Bool) (more : List ℕ) where
+  enough : rowBytes (c .width) * c .height ≤ length (chartBytes c set ++ more)
+  enough = omega (arith, length-chartBytes c set, length-append (chartBytes c set) more)
+
+  pub raw-image : imageIn (record { plain = false; chart = c; rest = 10 ∷ (chartBytes c set ++ more) })
+      ≡ some (record { set = cell c (chartBytes c set ++ more); rest = more })
+  unfolding imageIn white
+  raw-image =
+      let behind : drop (rowBytes (c .width) * c .height) (chartBytes c set ++ more) ≡ more = drop-at (chartBytes c set) more _ (length-chartBytes c set) in
+      rw (le-ltb _ _ enough, rawIn, behind)
+
+-- ---- plain: a digit for each pixel
+
+abbrev is-one : ℕ → Bool
+is-one d = eqb d 49
+
+digit-back : (t : Bool) → is-one (48 + one t) ≡ t
+digit-back true = refl
+digit-back false = refl
+
+digit-sign : (t : Bool) → signOf (48 + one t) ≡ pixel (is-one (48 + one t))
+unfolding signOf white
+digit-sign true = refl
+digit-sign false = refl
+
+-- digits without anything between them
+digits-back : (digits more : List ℕ) (f : ℕ → Bool) → ((i : ℕ) → i < length digits → getD digits i 0 ≡ 48 + one (f i)) →
+    digitsIn (length digits) (digits ++ more) ≡ some (record { bits = map is-one digits; rest = more })
+unfolding digitsIn
+digits-back [] more f all = refl
+digits-back (d ∷ digits) more f all =
+    let first : d ≡ 48 + one (f 0) = all 0 (omega arith) in
+    let sign : signOf d ≡ pixel (is-one d) = rw first (digit-sign (f 0)) in
+    rw (sign, digitsIn, digits-back digits more (λ i. f (suc i)) (λ i h. all (suc i) (omega arith)))
+
+-- row by row
+module _ (w x y : ℕ) (column : x < w) where
+  place-column : (y * w + x) % w ≡ x
+  place-column = ap (λ (n : ℕ). n % w) (add-comm (y * w) x) ∙ add-mul-mod-self-right x y w ∙ mod-eq-of-lt column
+
+  place-row : (y * w + x) / w ≡ y
+  place-row = mul-add-div-right (omega arith) y x ∙ ap (λ (n : ℕ). y + n) (div-eq-of-lt column) ∙ add-zero y
+
+  place-below : (h : ℕ) → y < h → y * w + x < w * h
+  place-below h row =
+      let l : suc y * w ≤ h * w = mul-le-mul-right w row in
+      omega (arith, l, suc-mul y w, mul-comm w h)
+
+module _ (c : Chart) (set : ℕ → ℕ → Bool) where
+  abbrev pub there : ℕ → Bool
+  there i = set (i % c .width) (i / c .width)
+
+  abbrev pub digits : List ℕ
+  digits = listed (c .width * c .height) (λ i. 48 + one (there i))
+
+  digit-at : (i : ℕ) → i < c .width * c .height → getD digits i 0 ≡ 48 + one (there i)
+  digit-at i h = listed-at (c .width * c .height) (λ i. 48 + one (there i)) i h
+
+  many : length digits ≡ c .width * c .height
+  many = length-listed (c .width * c .height) (λ i. 48 + one (there i))
+
+  -- what the reader makes of them
+  abbrev pub digit-image : List ℕ → Image
+  digit-image more = rowsOf c (record { bits = map is-one digits; rest = more })
+
+  pub plain-image : (more : List ℕ) → imageIn (record { plain = true; chart = c; rest = 10 ∷ (digits ++ more) }) ≡ some (digit-image more)
+  unfolding imageIn white
+  plain-image more =
+      let read = digits-back digits more there (λ i h. digit-at i (omega (arith, many))) in
+      rw (rw many at read, plainIn)
+
+  pub digit-image-same : (more : List ℕ) (x y : ℕ) → x < c .width → y < c .height → digit-image more .set x y ≡ set x y
+  digit-image-same more x y column row =
+      let i = y * c .width + x in
+      List·getD-map is-one digits i 0
+      ∙ ap is-one (digit-at i (place-below (c .width) x y column (c .height) row))
+      ∙ digit-back (there i)
+      ∙ ap₂ set (place-column (c .width) x y column) (place-row (c .width) x y column)
