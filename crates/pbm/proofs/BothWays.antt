@@ -1,0 +1,120 @@
+-- Document 02, 1/13, beyond what one call answers: what was written is read back, what was read is written back, padding is 0, and plain and
+-- raw pictures read alike. These are theorems about the definitions of specs/, which the promises of `read_pbm` and `write_pbm` cite. Assumes nothing.
+use Prim.Native.Nat.{ℕ, _+_, _*_, _/_, _%_, _≤_, _<_}
+use mathlib.Core.Bool.{false}
+use mathlib.Core.List.{List, [], _∷_, _++_, append-nil}
+use mathlib.Core.Option.{some}
+use mathlib.Core.Path.{_≡_, sym, ap, _∙_}
+use lib.ListN.{length, take, drop}
+use lib.Seq.{drop-append-seam}
+use Rattle.laws.specs.Lists.{over, take-over-all}
+use Rattle.refusals.specs.declared.Answer.the-variants.{Done}
+use Rattle.bitmap.specs.Pixels.{rowBytes, cell, one, badChart}
+use Rattle.bitmap.specs.declared.Chart.{Chart}
+use Rattle.texts.specs.Text.{naturalText}
+use Rattle.pbm.specs.Header.{Header, headerIn}
+use Rattle.pbm.specs.Raster.{Image, imageIn}
+use Rattle.pbm.specs.Bytes.{listed, chartBytes}
+use Rattle.pbm.specs.Calls.{Outcome, readOf, headText, pictureText, writtenOf}
+use Rattle.pbm.specs.declared.Picture.the-variants.{Read}
+use Rattle.pbm.proofs.Bytes.{cell-over, padding-over, padding-chart, chartBytes-again}
+use Rattle.pbm.proofs.ReadBack.{raw-back, plain-back}
+use Rattle.pbm.proofs.ReadInto.{read-into, good-parts, read-good}
+use Rattle.pbm.proofs.Alike.{read-alike}
+use Rattle.pbm.proofs.Written.{written-done, written-same}
+
+-- a chart's pixels with their padding cleared, over the start of a buffer
+abbrev pub cleared : Chart → List ℕ → List ℕ → List ℕ
+cleared c pixels buffer = over (chartBytes c (cell c pixels)) buffer
+
+-- a chart as a plain picture: `P1`, newline, width, space, height, newline, and a digit for each pixel, row by row
+abbrev pub plainText : Chart → List ℕ → List ℕ
+plainText c pixels = 80 ∷ 49 ∷ 10 ∷ naturalText (c .width) ++ (32 ∷ naturalText (c .height)) ++ (10 ∷ []) ++
+    listed (c .width * c .height) (λ i. 48 + one (cell c pixels (i % c .width) (i / c .width)))
+
+cleared-again : (c : Chart) (pixels buffer : List ℕ) → pictureText c (cleared c pixels buffer) ≡ pictureText c pixels
+unfolding pictureText
+cleared-again c pixels buffer = ap (λ (bytes : List ℕ). headText c ++ bytes) (chartBytes-again c (cell c pixels) buffer)
+
+-- ---- "reading back what we write gives the same chart with padding cleared"
+
+-- a chart that is not refused as bad, and a buffer with room for it
+module _ (c : Chart) (pixels buffer : List ℕ) (fine : badChart c pixels ≡ false) (room : rowBytes (c .width) * c .height ≤ length buffer) where
+  -- whatever follows the picture: it is not taken
+  pub reading-what-was-written : (more : List ℕ) → readOf (pictureText c pixels ++ more) buffer
+      ≡ record { answer = Read c (length (pictureText c pixels)); pixels = cleared c pixels buffer }
+  unfolding pictureText
+  reading-what-was-written more = let p = good-parts c pixels fine in raw-back c (cell c pixels) buffer (p .0) (p .1) room more
+
+  alone : readOf (pictureText c pixels) buffer ≡ record { answer = Read c (length (pictureText c pixels)); pixels = cleared c pixels buffer }
+  alone = ap (λ (file : List ℕ). readOf file buffer) (sym (append-nil (pictureText c pixels))) ∙ reading-what-was-written []
+
+  -- "the same chart", pixel by pixel
+  pub the-same-pixels : (x y : ℕ) → x < c .width → y < c .height → cell c (readOf (pictureText c pixels) buffer .pixels) x y ≡ cell c pixels x y
+  the-same-pixels x y column row = rw alone (cell-over c (cell c pixels) x y row buffer column)
+
+  -- a file that we wrote, read and written again, is that file
+  pub writing-what-was-read : pictureText c (readOf (pictureText c pixels) buffer .pixels) ≡ pictureText c pixels
+  writing-what-was-read = ap (λ (o : Outcome). pictureText c (o .pixels)) alone ∙ cleared-again c pixels buffer
+
+  -- and so `write_pbm` answers as it did, and puts the same into its output, whatever room it has
+  pub writing-once-more : (out : List ℕ) → writtenOf c (readOf (pictureText c pixels) buffer .pixels) out ≡ writtenOf c pixels out
+  writing-once-more out =
+      let good = read-good c buffer _ (read-into (pictureText c pixels) buffer c _ (ap (λ (o : Outcome). o .answer) alone)) in
+      written-same c _ out pixels good fine writing-what-was-read
+
+-- all that `write_pbm` put into its output is read back, and every byte of it is taken
+pub reading-the-output : (c : Chart) (pixels out buffer : List ℕ) (n : ℕ) → writtenOf c pixels out .answer ≡ Done n →
+    rowBytes (c .width) * c .height ≤ length buffer →
+    readOf (take n (writtenOf c pixels out .out)) buffer ≡ record { answer = Read c n; pixels = cleared c pixels buffer }
+reading-the-output c pixels out buffer n done room =
+    let w = written-done c pixels out n done in
+    let text : take n (writtenOf c pixels out .out) ≡ pictureText c pixels = rw (w .1, w .2) (take-over-all (pictureText c pixels) out) in
+    rw (text, w .1) (alone c pixels buffer (w .0) room)
+
+-- ---- what was read, of any file, plain or raw
+
+module _ (file buffer : List ℕ) (c : Chart) (n : ℕ) (read : readOf file buffer .answer ≡ Read c n) where
+  -- is a chart that no call refuses as bad
+  pub what-was-read-is-good : badChart c (readOf file buffer .pixels) ≡ false
+  what-was-read-is-good = read-good c buffer (readOf file buffer .pixels) (read-into file buffer c n read)
+
+  -- "Reader and writer set padding to 0": from the last column of a row to the end of its last byte
+  pub padding-is-0 : (x y : ℕ) → c .width ≤ x → x < rowBytes (c .width) * 8 → y < c .height → cell c (readOf file buffer .pixels) x y ≡ false
+  padding-is-0 x y past within row =
+      let r = read-into file buffer c n read in
+      rw (r .lies) (padding-over c (r .set) x y row buffer past within)
+
+  -- written, and read again: the same bytes
+  pub reading-once-more : readOf (pictureText c (readOf file buffer .pixels)) buffer .pixels ≡ readOf file buffer .pixels
+  reading-once-more =
+      let pixels = readOf file buffer .pixels in
+      let r = read-into file buffer c n read in
+      let same : chartBytes c (cell c pixels) ≡ chartBytes c (r .set) = rw (r .lies) (chartBytes-again c (r .set) buffer) in
+      ap (λ (o : Outcome). o .pixels) (alone c pixels buffer what-was-read-is-good (r .room))
+      ∙ ap (λ (bytes : List ℕ). over bytes buffer) same
+      ∙ sym (r .lies)
+
+pub written-padding-is-0 : (c : Chart) (pixels : List ℕ) (x y : ℕ) → c .width ≤ x → x < rowBytes (c .width) * 8 → y < c .height →
+    cell c (drop (length (headText c)) (pictureText c pixels)) x y ≡ false
+unfolding pictureText
+written-padding-is-0 c pixels x y past within row =
+    rw (drop-append-seam (headText c) (chartBytes c (cell c pixels))) (padding-chart c (cell c pixels) x y row past within)
+
+-- ---- plain and raw alike
+
+-- Any two files with the same sizes and the same pixels leave the same in a buffer, of either kind each.
+pub the-same-picture : (file file′ buffer : List ℕ) (h h′ : Header) (image image′ : Image) → headerIn file ≡ some h → headerIn file′ ≡ some h′ →
+    imageIn h ≡ some image → imageIn h′ ≡ some image′ → h .chart ≡ h′ .chart →
+    ((x y : ℕ) → x < h .chart .width → y < h .chart .height → image .set x y ≡ image′ .set x y) → readOf file buffer .pixels ≡ readOf file′ buffer .pixels
+the-same-picture file file′ buffer h h′ image image′ head head′ whole whole′ chart same = read-alike file file′ buffer h h′ image image′ whole whole′ chart same head head′
+
+module _ (c : Chart) (pixels buffer : List ℕ) (fine : badChart c pixels ≡ false) (room : rowBytes (c .width) * c .height ≤ length buffer) where
+  pub reading-a-plain-picture : (more : List ℕ) → readOf (plainText c pixels ++ more) buffer
+      ≡ record { answer = Read c (length (plainText c pixels)); pixels = cleared c pixels buffer }
+  reading-a-plain-picture more = let p = good-parts c pixels fine in plain-back c (cell c pixels) buffer (p .0) (p .1) room more
+
+  pub plain-and-raw-alike : (more more′ : List ℕ) → readOf (plainText c pixels ++ more) buffer .pixels ≡ readOf (pictureText c pixels ++ more′) buffer .pixels
+  plain-and-raw-alike more more′ =
+      let pixelsOf : Outcome → List ℕ = λ o. o .pixels in
+      ap pixelsOf (reading-a-plain-picture more) ∙ sym (ap pixelsOf (reading-what-was-written c pixels buffer fine room more′))
