@@ -4,7 +4,7 @@ use Prim.Native.Nat.{ℕ, _+_, _*_, _/_, _%_, _≤_, _<_}
 use mathlib.Core.Bool.{false}
 use mathlib.Core.List.{List, [], _∷_, _++_, append-nil}
 use mathlib.Core.Option.{some}
-use mathlib.Core.Path.{_≡_, sym, ap, _∙_}
+use mathlib.Core.Path.{_≡_, refl, sym, ap, _∙_}
 use lib.ListN.{length, take, drop}
 use lib.Seq.{drop-append-seam}
 use Rattle.laws.specs.Lists.{over, take-over-all}
@@ -20,7 +20,8 @@ use Rattle.pbm.specs.declared.Picture.the-variants.{Read}
 use Rattle.pbm.proofs.Bytes.{cell-over, padding-over, padding-chart, chartBytes-again}
 use Rattle.pbm.proofs.ReadBack.{raw-back, plain-back}
 use Rattle.pbm.proofs.ReadInto.{read-into, good-parts, read-good}
-use Rattle.pbm.proofs.Alike.{read-alike}
+use Rattle.pbm.proofs.Alike.{ReadAlike, read-alike}
+use Rattle.pbm.proofs.Spaces.{inked, spaces-alike}
 use Rattle.pbm.proofs.Written.{written-done, written-same}
 
 -- a chart's pixels with their padding cleared, over the start of a buffer
@@ -28,9 +29,11 @@ abbrev pub cleared : Chart → List ℕ → List ℕ → List ℕ
 cleared c pixels buffer = over (chartBytes c (cell c pixels)) buffer
 
 -- a chart as a plain picture: `P1`, newline, width, space, height, newline, and a digit for each pixel, row by row
+abbrev pub plainHead : Chart → List ℕ
+plainHead c = 80 ∷ 49 ∷ 10 ∷ naturalText (c .width) ++ (32 ∷ naturalText (c .height)) ++ (10 ∷ [])
+
 abbrev pub plainText : Chart → List ℕ → List ℕ
-plainText c pixels = 80 ∷ 49 ∷ 10 ∷ naturalText (c .width) ++ (32 ∷ naturalText (c .height)) ++ (10 ∷ []) ++
-    listed (c .width * c .height) (λ i. 48 + one (cell c pixels (i % c .width) (i / c .width)))
+plainText c pixels = plainHead c ++ listed (c .width * c .height) (λ i. 48 + one (cell c pixels (i % c .width) (i / c .width)))
 
 cleared-again : (c : Chart) (pixels buffer : List ℕ) → pictureText c (cleared c pixels buffer) ≡ pictureText c pixels
 unfolding pictureText
@@ -103,10 +106,10 @@ written-padding-is-0 c pixels x y past within row =
 
 -- ---- plain and raw alike
 
--- Any two files with the same sizes and the same pixels leave the same in a buffer, of either kind each.
+-- Any two files with the same sizes and the same pixels, of either kind each, give the same chart or the same refusal, and the same pixels.
 pub the-same-picture : (file file′ buffer : List ℕ) (h h′ : Header) (image image′ : Image) → headerIn file ≡ some h → headerIn file′ ≡ some h′ →
     imageIn h ≡ some image → imageIn h′ ≡ some image′ → h .chart ≡ h′ .chart →
-    ((x y : ℕ) → x < h .chart .width → y < h .chart .height → image .set x y ≡ image′ .set x y) → readOf file buffer .pixels ≡ readOf file′ buffer .pixels
+    ((x y : ℕ) → x < h .chart .width → y < h .chart .height → image .set x y ≡ image′ .set x y) → ReadAlike (readOf file buffer) (readOf file′ buffer)
 the-same-picture file file′ buffer h h′ image image′ head head′ whole whole′ chart same = read-alike file file′ buffer h h′ image image′ whole whole′ chart same head head′
 
 module _ (c : Chart) (pixels buffer : List ℕ) (fine : badChart c pixels ≡ false) (room : rowBytes (c .width) * c .height ≤ length buffer) where
@@ -114,7 +117,11 @@ module _ (c : Chart) (pixels buffer : List ℕ) (fine : badChart c pixels ≡ fa
       ≡ record { answer = Read c (length (plainText c pixels)); pixels = cleared c pixels buffer }
   reading-a-plain-picture more = let p = good-parts c pixels fine in plain-back c (cell c pixels) buffer (p .0) (p .1) room more
 
-  pub plain-and-raw-alike : (more more′ : List ℕ) → readOf (plainText c pixels ++ more) buffer .pixels ≡ readOf (pictureText c pixels ++ more′) buffer .pixels
+  pub plain-and-raw-alike : (more more′ : List ℕ) → ReadAlike (readOf (plainText c pixels ++ more) buffer) (readOf (pictureText c pixels ++ more′) buffer)
   plain-and-raw-alike more more′ =
-      let pixelsOf : Outcome → List ℕ = λ o. o .pixels in
-      ap pixelsOf (reading-a-plain-picture more) ∙ sym (ap pixelsOf (reading-what-was-written c pixels buffer fine room more′))
+      rw (reading-a-plain-picture more, reading-what-was-written c pixels buffer fine room more′) (record { answers = refl; buffers = refl })
+
+-- "Plain digits may stand without spaces between them": a plain raster, and its bytes that are no white space, are read alike.
+pub spaces-say-nothing : (c : Chart) (raster buffer : List ℕ) → c .width ≤ 512 → c .height ≤ 512 →
+    ReadAlike (readOf (plainHead c ++ raster) buffer) (readOf (plainHead c ++ inked raster) buffer)
+spaces-say-nothing c raster buffer wide high = spaces-alike c wide high raster buffer
