@@ -4,7 +4,7 @@ use Prim.Native.Nat.{ℕ, zero, suc, _+_, _-_, _*_, _/_, _%_, _^_, _≤_, _<_}
 use mathlib.Core.Bool.{Bool, true, false, _&&_}
 use mathlib.Core.List.{List, [], _∷_, _++_, append-nil}
 use mathlib.Core.Path.{_≡_, refl, sym, ap, ap₂, _∙_}
-use native.Mathlib.Nat.{le-refl, add-zero, add-suc, add-comm, zero-mul, suc-mul, mul-assoc, mul-comm, mul-one, mul-le-mul-right, zero-lt-suc, pow-suc, div-one, div-eq-of-lt, div-lt-iff-lt-mul, mul-add-div-right, mod-eq-of-lt, add-mul-mod-self-right}
+use native.Mathlib.Nat.{le-refl, add-zero, add-suc, zero-mul, mul-assoc, mul-comm, mul-one, zero-lt-suc, pow-suc, div-one, div-eq-of-lt, div-lt-iff-lt-mul}
 use native.Mathlib.Numerals.{add-one}
 use native.Mathlib.Omega.{arith}
 use lib.Dec.{ltb, eqb}
@@ -18,6 +18,7 @@ use Rattle.bitmap.specs.declared.Chart.{Chart}
 use Rattle.bitmap.proofs.Digits.{digit}
 use Rattle.bitmap.proofs.Places.{one-le}
 use Rattle.pbm.specs.Bytes.{packed, byteAt, listed, chartBytes}
+use Rattle.pbm.proofs.RowByRow.{place-column, place-row, place-below}
 
 -- ---- pixels as a number
 
@@ -152,20 +153,17 @@ module _ (c : Chart) (set : ℕ → ℕ → Bool) where
 -- ---- the byte of column x of row y, for a row of b bytes
 
 module _ (b x y : ℕ) (column : x < b * 8) where
+  within : x / 8 < b
+  within = omega arith
+
   pub byte-below : (height : ℕ) → y < height → y * b + x / 8 < b * height
-  byte-below height row =
-      let h : suc y * b ≤ height * b = mul-le-mul-right b row in
-      omega (arith, h, suc-mul y b, mul-comm b height)
+  byte-below = place-below b (x / 8) y within
 
   byte-within-row : (y * b + x / 8) % b ≡ x / 8
-  byte-within-row =
-      let l : x / 8 < b = omega arith in
-      ap (λ (n : ℕ). n % b) (add-comm (y * b) (x / 8)) ∙ add-mul-mod-self-right (x / 8) y b ∙ mod-eq-of-lt l
+  byte-within-row = place-column b (x / 8) y within
 
   byte-row : (y * b + x / 8) / b ≡ y
-  byte-row =
-      let l : x / 8 < b = omega arith in
-      mul-add-div-right (omega arith) y (x / 8) ∙ ap (λ (n : ℕ). y + n) (div-eq-of-lt l) ∙ add-zero y
+  byte-row = place-row b (x / 8) y within
 
 -- ---- a pixel is found again, whatever follows the chart's bytes
 

@@ -4,7 +4,6 @@ use mathlib.Core.Bool.{Bool, true, false}
 use mathlib.Core.List.{List, [], _∷_, _++_, map}
 use mathlib.Core.Option.{some}
 use mathlib.Core.Path.{_≡_, refl, ap, ap₂, _∙_}
-use native.Mathlib.Nat.{add-comm, add-zero, add-mul-mod-self-right, mod-eq-of-lt, mul-add-div-right, div-eq-of-lt, mul-le-mul-right, suc-mul, mul-comm}
 use native.Mathlib.Omega.{arith}
 use lib.Dec.{eqb}
 use lib.ListN.{length, getD, drop, length-append, List·getD-map}
@@ -15,6 +14,7 @@ use Rattle.bitmap.specs.declared.Chart.{Chart}
 use Rattle.pbm.specs.Header.{white}
 use Rattle.pbm.specs.Raster.{Image, rawIn, pixel, signOf, digitsIn, rowsOf, plainIn, imageIn}
 use Rattle.pbm.specs.Bytes.{listed, chartBytes}
+use Rattle.pbm.proofs.RowByRow.{place-column, place-row, place-below}
 use Rattle.pbm.proofs.Bytes.{length-chartBytes, length-listed, listed-at}
 
 -- ---- raw: a chart's bytes
@@ -55,18 +55,6 @@ digits-back (d ∷ digits) more f all =
     rw (sign, digitsIn, digits-back digits more (λ i. f (suc i)) (λ i h. all (suc i) (omega arith)))
 
 -- row by row
-module _ (w x y : ℕ) (column : x < w) where
-  place-column : (y * w + x) % w ≡ x
-  place-column = ap (λ (n : ℕ). n % w) (add-comm (y * w) x) ∙ add-mul-mod-self-right x y w ∙ mod-eq-of-lt column
-
-  place-row : (y * w + x) / w ≡ y
-  place-row = mul-add-div-right (omega arith) y x ∙ ap (λ (n : ℕ). y + n) (div-eq-of-lt column) ∙ add-zero y
-
-  place-below : (h : ℕ) → y < h → y * w + x < w * h
-  place-below h row =
-      let l : suc y * w ≤ h * w = mul-le-mul-right w row in
-      omega (arith, l, suc-mul y w, mul-comm w h)
-
 module _ (c : Chart) (set : ℕ → ℕ → Bool) where
   abbrev pub there : ℕ → Bool
   there i = set (i % c .width) (i / c .width)
