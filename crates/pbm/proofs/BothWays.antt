@@ -1,5 +1,6 @@
--- Document 02, 1/13, beyond what one call answers: what was written is read back, what was read is written back, padding is 0, and plain and
--- raw pictures read alike. These are theorems about the definitions of specs/, which the promises of `read_pbm` and `write_pbm` cite. Assumes nothing.
+-- Document 02, 1/13, beyond what one call answers: what was written is read back, what was read is written back, padding is 0, bytes behind an
+-- image change nothing, and plain and raw pictures are read alike. These are theorems about the definitions of specs/, which the promises of
+-- `read_pbm` and `write_pbm` cite. Assumes nothing.
 use Prim.Native.Nat.{ℕ, _+_, _*_, _/_, _%_, _≤_, _<_}
 use mathlib.Core.Bool.{false}
 use mathlib.Core.List.{List, [], _∷_, _++_, append-nil}
@@ -21,6 +22,8 @@ use Rattle.pbm.proofs.Bytes.{cell-over, padding-over, padding-chart, ch
 use Rattle.pbm.proofs.ReadBack.{raw-back, plain-back}
 use Rattle.pbm.proofs.ReadInto.{read-into, good-parts, read-good}
 use Rattle.pbm.proofs.Alike.{ReadAlike, read-alike}
+use Rattle.pbm.proofs.Behind.{nothing-behind-matters}
+use Rattle.pbm.proofs.CutShort.{Refuses, cut-short-is-refused}
 use Rattle.pbm.proofs.Spaces.{inked, spaces-alike}
 use Rattle.pbm.proofs.Written.{written-done, written-same}
 
@@ -87,6 +90,14 @@ module _ (file buffer : List ℕ) (c : Chart) (n : ℕ) (read : readOf file buff
   padding-is-0 x y past within row =
       let r = read-into file buffer c n read in
       rw (r .lies) (padding-over c (r .set) x y row buffer past within)
+
+  -- "Bytes after the first image are left unread": whatever follows those that were counted, all is the same
+  pub what-follows-changes-nothing : (more : List ℕ) → readOf (take n file ++ more) buffer ≡ readOf file buffer
+  what-follows-changes-nothing more = nothing-behind-matters file more buffer c n read
+
+  -- and all that were counted are needed: a file that ends before the last of them is refused
+  pub cut-off-is-refused : (k : ℕ) → k < n → Refuses (take k file) buffer
+  cut-off-is-refused k short = cut-short-is-refused file buffer c n read k short
 
   -- written, and read again: the same bytes
   pub reading-once-more : readOf (pictureText c (readOf file buffer .pixels)) buffer .pixels ≡ readOf file buffer .pixels
