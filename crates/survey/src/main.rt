@@ -1,0 +1,72 @@
+// Answers the picture on standard input with three lines: the outline from its first start, the outline
+// simplified, and the numbers of what is left; one that is no picture, with one line.
+// `step` says what is to be done next; here it is done, and nothing else. A read or a write that fails is
+// told on standard error, and ends the program.
+mod answer;
+mod step;
+
+ghost use Prim.Native.Nat.{_≤_};
+ghost use lib.ListN.{length};
+use libc::STDERR_FILENO;
+use libc::STDIN_FILENO;
+use libc::STDOUT_FILENO;
+use step::Turn;
+use step::step;
+
+// The largest chart has 262,144 pixels: its plain picture fits, with a space before each digit. Three lines
+// have at most 32,768 digits each, and their newlines.
+fn main() {
+    let mut input = [0u8; 600000];
+    let mut output = [0u8; 98307];
+    run(&mut input, &mut output);
+}
+
+// Lends the buffers on as slices.
+fn run(input: &mut [u8; 600000], output: &mut [u8; 98307]) {
+    survey(input, output);
+}
+
+// Reads until the step says that the answer is to be written, and writes it. More may come until the input
+// has ended or its buffer is full.
+fn survey(input: &mut [u8], output: &mut [u8])
+    requires { ⌜ 98307 ≤ length (now output) ⌝ }
+{
+    let mut held = 0;
+    let mut more = true;
+    loop {
+        match step(&input[0..held], more, output) {
+            Turn::Read => {
+                let Got::Bytes(n) = read(&mut input[held..]) else {
+                    return;
+                };
+                held += n;
+                more = (0 < n) & (held < input.len());
+            }
+            Turn::Write(bytes) => {
+                write(&output[0..bytes]);
+                return;
+            }
+        }
+    }
+}
+
+// How many bytes came, none at the end of the input; or that it cannot be read.
+pub enum Got {
+    Bytes(usize),
+    Failed,
+}
+
+fn read(part: &mut [u8]) -> Got {
+    let got = libc::read(STDIN_FILENO, part);
+    if got < 0 {
+        io::write_all(STDERR_FILENO, b"survey: the input cannot be read\n");
+        return Got::Failed;
+    }
+    Got::Bytes(io::count(got, part))
+}
+
+fn write(part: &[u8]) {
+    if !io::write_all(STDOUT_FILENO, part) {
+        io::write_all(STDERR_FILENO, b"survey: the output cannot be written\n");
+    }
+}
