@@ -5,8 +5,9 @@
 mod answer;
 mod step;
 
-ghost use Prim.Native.Nat.{_≤_};
+ghost use Prim.Native.Nat.{_+_, _≤_};
 ghost use lib.ListN.{length};
+ghost use Rattle.survey.specs.inside.Reading.{Nearer};
 use libc::STDERR_FILENO;
 use libc::STDIN_FILENO;
 use libc::STDOUT_FILENO;
@@ -26,8 +27,7 @@ fn run(input: &mut [u8; 600000], output: &mut [u8; 98307]) {
     survey(input, output);
 }
 
-// Reads until the step says that the answer is to be written, and writes it. More may come until the input
-// has ended or its buffer is full.
+// Reads until the step says that the answer is to be written, and writes it.
 fn survey(input: &mut [u8], output: &mut [u8])
     requires { ⌜ 98307 ≤ length (now output) ⌝ }
 {
@@ -36,11 +36,15 @@ fn survey(input: &mut [u8], output: &mut [u8])
     loop {
         match step(&input[0..held], more, output) {
             Turn::Read => {
-                let Got::Bytes(n) = read(&mut input[held..]) else {
+                let Got::Held {
+                    bytes,
+                    more: may_come,
+                } = read(input, held)
+                else {
                     return;
                 };
-                held += n;
-                more = (0 < n) & (held < input.len());
+                held = bytes;
+                more = may_come;
             }
             Turn::Write(bytes) => {
                 write(&output[0..bytes]);
@@ -50,19 +54,37 @@ fn survey(input: &mut [u8], output: &mut [u8])
     }
 }
 
-// How many bytes came, none at the end of the input; or that it cannot be read.
+// How many bytes of the input are held, and whether more may come; or that it cannot be read.
 pub enum Got {
-    Bytes(usize),
+    Held { bytes: usize, more: bool },
     Failed,
 }
 
-fn read(part: &mut [u8]) -> Got {
-    let got = libc::read(STDIN_FILENO, part);
+// Reads on behind the bytes that are held.
+fn read(input: &mut [u8], held: usize) -> Got
+    requires { ⌜ held ≤ length (now input) ⌝ }
+    ensures { λ r. ⌜ Nearer r held (length (now (input .entry))) ⌝ }
+{
+    let size = input.len();
+    let got = libc::read(STDIN_FILENO, &mut input[held..]);
     if got < 0 {
         io::write_all(STDERR_FILENO, b"survey: the input cannot be read\n");
         return Got::Failed;
     }
-    Got::Bytes(io::count(got, part))
+    let n = io::count(got, &input[held..]);
+    fed(held, n, size)
+}
+
+// What is held of an input with a buffer of `size` bytes once `n` more came: none means that the input has
+// ended. More may come until it has, or its buffer is full.
+fn fed(held: usize, n: usize, size: usize) -> Got
+    requires { ⌜ held + n ≤ size ⌝ }
+    ensures { λ r. ⌜ Nearer r held size ⌝ }
+{
+    Got::Held {
+        bytes: held + n,
+        more: (0 < n) & (held + n < size),
+    }
 }
 
 fn write(part: &[u8]) {
