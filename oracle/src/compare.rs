@@ -4,8 +4,8 @@
 //! of its input before it writes a line, and still nothing piles up here.
 
 use crate::random::Random;
-use crate::smooth;
 use crate::text::Line;
+use crate::{pbm, smooth};
 use crate::{Subject, STACK};
 use std::io::{self, BufRead, BufReader, BufWriter, Write};
 use std::process::{Command, ExitCode, Stdio};
@@ -71,11 +71,13 @@ pub fn compare(subject: Subject, count: u64, seed: u64, ours: &[&str]) -> io::Re
     if rest {
         println!("our program wrote more lines than there are cases");
     }
-    if subject.name == "smooth" {
-        println!("{}", smooth::held());
+    match subject.name {
+        "smooth" => println!("{}", smooth::held()),
+        "pbm" => println!("{}", pbm::netpbm::held()),
+        _ => {}
     }
     report(&differences, count)?;
-    let agreed = differences.count == 0 && !rest && status.success();
+    let agreed = differences.count == 0 && !rest && status.success() && pbm::netpbm::all_named();
     Ok(if agreed { ExitCode::SUCCESS } else { ExitCode::FAILURE })
 }
 

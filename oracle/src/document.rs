@@ -1,4 +1,4 @@
-//! Document 01's limits and numbers, as plain tests.
+//! Document 01's limits and numbers, and document 02's, as plain tests.
 
 pub const BAD_SIZE: u8 = 1;
 pub const TOO_MANY: u8 = 2;
@@ -10,6 +10,7 @@ pub const BAD_SETTINGS: u8 = 7;
 pub const NO_WAY: u8 = 8;
 pub const STUCK: u8 = 9;
 pub const NO_ROOM: u8 = 10;
+pub const BAD_PICTURE: u8 = 12;
 
 /// The number of the first test that applies. The tests stand in the order of their numbers.
 pub fn lowest(tests: &[(u8, bool)]) -> Option<u8> {

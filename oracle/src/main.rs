@@ -6,6 +6,7 @@ mod document;
 mod frames;
 mod held;
 mod panics;
+mod pbm;
 mod point;
 mod random;
 mod reduce;
@@ -54,7 +55,7 @@ macro_rules! subject {
     };
 }
 
-const SUBJECTS: [Subject; 9] = [
+const SUBJECTS: [Subject; 10] = [
     subject!(sqrt),
     subject!(point),
     subject!(chart),
@@ -64,6 +65,7 @@ const SUBJECTS: [Subject; 9] = [
     subject!(frames),
     subject!(util),
     subject!(smooth),
+    subject!(pbm),
 ];
 
 impl Subject {

@@ -9,7 +9,7 @@ use pairs::Read;
 use pbm::Picture;
 
 // What a buffer holds before the call.
-const OLD: u8 = 165;
+const OLD: u8 = 238;
 
 // The most bytes of a file or of a chart that are read, and the most room that is lent.
 const MOST: usize = 65536;

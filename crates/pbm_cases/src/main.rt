@@ -7,8 +7,8 @@ use libc::STDIN_FILENO;
 use libc::STDOUT_FILENO;
 use lines::Turn;
 
-// Once the output is half full it is written out.
-const FULL: usize = 131072;
+// Once the output is a quarter full it is written out: the longest answer shows 65,536 bytes.
+const FULL: usize = 65536;
 
 fn main() {
     let mut input = [0u8; 262144];

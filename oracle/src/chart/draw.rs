@@ -34,6 +34,11 @@ impl Chart {
         *byte = if value { *byte | mask } else { *byte & !mask };
     }
 
+    /// The same pixels, with zeros in the padding of every row, and no bytes behind them.
+    pub fn without_padding(&self) -> Chart {
+        Chart::of_rule(self.width, self.height, |x, y| self.bit(x, y))
+    }
+
     /// The same pixels, with ones in the padding of every row.
     pub fn with_padding(mut self) -> Chart {
         let stride = self.width.div_ceil(8);

@@ -56,7 +56,7 @@ impl Chart {
 
     /// "Rows from the top, each padded to whole bytes; a pixel is one bit of a byte, the leftmost
     /// the highest."
-    fn bit(&self, x: usize, y: usize) -> bool {
+    pub fn bit(&self, x: usize, y: usize) -> bool {
         let byte = self.bytes[y * self.width.div_ceil(8) + x / 8];
         byte >> (7 - x % 8) & 1 == 1
     }
