@@ -13,6 +13,7 @@ mod reduce;
 mod simplify;
 mod smooth;
 mod sqrt;
+mod survey;
 mod text;
 mod told;
 mod util;
@@ -21,13 +22,13 @@ mod walker;
 mod worked;
 
 use random::Random;
-use std::io::{self, BufRead, Write};
+use std::io::{self, BufRead, Read, Write};
 use std::process::ExitCode;
 use std::thread;
 use text::{Cases, Line, Words};
 
 const USAGE: &str = "oracle answer NAME | make NAME COUNT SEED | cases NAME | \
-    compare NAME COUNT SEED OURS.. | told NAME CASES ANSWERS";
+    compare NAME COUNT SEED OURS.. | told NAME CASES ANSWERS | survey";
 
 /// A list of 4,096 points may be split 4,096 deep.
 const STACK: usize = 1 << 28;
@@ -101,6 +102,9 @@ fn main() -> ExitCode {
 fn run(words: &[String]) -> io::Result<ExitCode> {
     let words: Vec<&str> = words.iter().map(String::as_str).collect();
     let usage = || io::Error::new(io::ErrorKind::InvalidInput, USAGE);
+    if words == ["survey"] {
+        return answer_survey();
+    }
     let (&command, rest) = words.split_first().ok_or_else(usage)?;
     let (&name, rest) = rest.split_first().ok_or_else(usage)?;
     let subject = Subject::named(name).ok_or_else(usage)?;
@@ -134,6 +138,14 @@ fn answer_all(subject: Subject) -> io::Result<()> {
         answer.clear();
     }
     output.flush()
+}
+
+fn answer_survey() -> io::Result<ExitCode> {
+    let mut file = Vec::new();
+    io::stdin().lock().read_to_end(&mut file)?;
+    let mut output = io::stdout().lock();
+    survey::lines(&file).iter().try_for_each(|line| writeln!(output, "{line}"))?;
+    Ok(ExitCode::SUCCESS)
 }
 
 fn make_all(subject: Subject, count: u64, seed: u64) -> io::Result<()> {

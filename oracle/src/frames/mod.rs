@@ -42,7 +42,7 @@ pub fn digits(bytes: &[u8]) -> String {
 }
 
 /// The reply to a frame, or `None` for what is none.
-fn reply(frame: &[u8]) -> Option<Vec<u8>> {
+pub fn reply(frame: &[u8]) -> Option<Vec<u8>> {
     match frame.first()? {
         1 => walk(frame),
         2 => simplified(frame),
@@ -84,8 +84,13 @@ fn walk(frame: &[u8]) -> Option<Vec<u8>> {
         return None;
     }
     let chart = Chart { width, height, bytes: frame[10..].to_vec() };
-    let outline = walker::outline(&chart, start, clockwise);
-    Some(put_points(1, outline.and_then(|points| fitting(points, MOST_POINTS))))
+    Some(walked(&chart, start, clockwise))
+}
+
+/// The reply of a walk on a chart, which may be larger than a frame has it.
+pub fn walked(chart: &Chart, start: PointI32, clockwise: bool) -> Vec<u8> {
+    let outline = walker::outline(chart, start, clockwise);
+    put_points(1, outline.and_then(|points| fitting(points, MOST_POINTS)))
 }
 
 /// "Else 10."
@@ -135,7 +140,7 @@ fn either<T>(answer: Result<Vec<T>, u8>) -> (u8, Vec<T>) {
     answer.map_or_else(|refusal| (refusal, Vec::new()), |values| (0, values))
 }
 
-fn put_points(kind: u8, answer: Result<Vec<PointI32>, u8>) -> Vec<u8> {
+pub fn put_points(kind: u8, answer: Result<Vec<PointI32>, u8>) -> Vec<u8> {
     let (number, points) = either(answer);
     let mut reply = head(kind, number, points.len());
     let values = points.iter().flat_map(|point| [point.x, point.y]);
