@@ -34,13 +34,13 @@ struct Difference {
 
 /// How many cases differ, and the shortest of them.
 #[derive(Default)]
-struct Differences {
-    count: u64,
+pub struct Differences {
+    pub count: u64,
     smallest: Option<Difference>,
 }
 
 impl Differences {
-    fn note(&mut self, case: &[u8], rust: &[u8], ours: &[u8]) {
+    pub fn note(&mut self, case: &[u8], rust: &[u8], ours: &[u8]) {
         self.count += 1;
         let shorter = |than: &Difference| case.len() < than.case.len();
         if self.smallest.as_ref().is_none_or(shorter) {
@@ -112,7 +112,7 @@ fn read_answers(
     Ok((differences, rest))
 }
 
-fn report(differences: &Differences, count: u64) -> io::Result<()> {
+pub fn report(differences: &Differences, count: u64) -> io::Result<()> {
     let mut out = io::stdout().lock();
     writeln!(out, "agreed {} of {count}", count - differences.count)?;
     if let Some(smallest) = &differences.smallest {

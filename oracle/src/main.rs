@@ -102,13 +102,17 @@ fn main() -> ExitCode {
 fn run(words: &[String]) -> io::Result<ExitCode> {
     let words: Vec<&str> = words.iter().map(String::as_str).collect();
     let usage = || io::Error::new(io::ErrorKind::InvalidInput, USAGE);
-    if words == ["survey"] {
-        return answer_survey();
+    let number = |word: &str| word.parse::<u64>().map_err(|_| usage());
+    match words[..] {
+        ["survey"] => return answer_survey(),
+        ["compare", "survey", count, seed, ref ours @ ..] if !ours.is_empty() => {
+            return survey::compare::compare(number(count)?, number(seed)?, ours);
+        }
+        _ => {}
     }
     let (&command, rest) = words.split_first().ok_or_else(usage)?;
     let (&name, rest) = rest.split_first().ok_or_else(usage)?;
     let subject = Subject::named(name).ok_or_else(usage)?;
-    let number = |word: &str| word.parse::<u64>().map_err(|_| usage());
     match (command, rest) {
         ("answer", []) => answer_all(subject)?,
         ("make", [count, seed]) => make_all(subject, number(count)?, number(seed)?)?,
@@ -143,8 +147,7 @@ fn answer_all(subject: Subject) -> io::Result<()> {
 fn answer_survey() -> io::Result<ExitCode> {
     let mut file = Vec::new();
     io::stdin().lock().read_to_end(&mut file)?;
-    let mut output = io::stdout().lock();
-    survey::lines(&file).iter().try_for_each(|line| writeln!(output, "{line}"))?;
+    io::stdout().lock().write_all(survey::text(&file).as_bytes())?;
     Ok(ExitCode::SUCCESS)
 }
 

@@ -1,6 +1,6 @@
 //! The fixed list of the crate `pbm`.
 
-use super::make::make;
+use super::make::{make, plain, raw};
 use super::{reader, written};
 use crate::chart::{draw, Chart};
 use crate::random::Random;
@@ -170,24 +170,6 @@ fn sizes(cases: &mut Cases) {
             read(cases, &plain(&chart, ""), room);
         }
     }
-}
-
-/// A raw picture of a chart, with its padding as it is.
-fn raw(chart: &Chart) -> Vec<u8> {
-    let head = format!("P4\n{} {}\n", chart.width, chart.height);
-    [head.as_bytes(), &chart.bytes].concat()
-}
-
-/// A plain one, with something before each digit.
-fn plain(chart: &Chart, before: &str) -> Vec<u8> {
-    let mut text = format!("P1\n{} {}\n", chart.width, chart.height);
-    for y in 0..chart.height {
-        for x in 0..chart.width {
-            text += before;
-            text.push(if chart.bit(x, y) { '1' } else { '0' });
-        }
-    }
-    text.into_bytes()
 }
 
 /// Several refusals at once: 12 up to the second size, then 1, then 12, and 10 last.

@@ -1,7 +1,7 @@
 //! Cases for the crate `pbm`: pictures in every spelling, damaged ones, and charts to be written.
 
 use super::written;
-use crate::chart::draw;
+use crate::chart::{draw, Chart};
 use crate::random::Random;
 use crate::text::{Line, MOST_BYTES, MOST_ROOM};
 
@@ -24,6 +24,19 @@ pub fn make(random: &mut Random, _: u64, case: &mut Line) {
 
 fn make_read(random: &mut Random, case: &mut Line) {
     let (width, height) = sizes(random);
+    let file = file(random, width, height);
+    let room = room(random, width.div_ceil(8) * height);
+    case.word("read_pbm").bytes(&file).number(room);
+}
+
+/// A picture of any sizes.
+pub fn any(random: &mut Random) -> Vec<u8> {
+    let (width, height) = sizes(random);
+    file(random, width, height)
+}
+
+/// A picture of these sizes, mostly; as it should be, or damaged.
+fn file(random: &mut Random, width: usize, height: usize) -> Vec<u8> {
     let plain = random.once_in(2) && width * height < 30_000;
     let mut file = match random.below(64) {
         0 => rubbish(random),
@@ -31,8 +44,7 @@ fn make_read(random: &mut Random, case: &mut Line) {
     };
     damage(random, &mut file);
     file.truncate(MOST_BYTES);
-    let room = room(random, width.div_ceil(8) * height);
-    case.word("read_pbm").bytes(&file).number(room);
+    file
 }
 
 fn make_write(random: &mut Random, case: &mut Line) {
@@ -76,6 +88,24 @@ fn room(random: &mut Random, need: usize) -> usize {
         _ => need + random.within(1, 9) as usize,
     };
     room.min(MOST_ROOM)
+}
+
+/// A raw picture of a chart, with its padding as it is.
+pub fn raw(chart: &Chart) -> Vec<u8> {
+    let head = format!("P4\n{} {}\n", chart.width, chart.height);
+    [head.as_bytes(), &chart.bytes].concat()
+}
+
+/// A plain one, with something before each digit.
+pub fn plain(chart: &Chart, before: &str) -> Vec<u8> {
+    let mut text = format!("P1\n{} {}\n", chart.width, chart.height);
+    for y in 0..chart.height {
+        for x in 0..chart.width {
+            text += before;
+            text.push(if chart.bit(x, y) { '1' } else { '0' });
+        }
+    }
+    text.into_bytes()
 }
 
 fn rubbish(random: &mut Random) -> Vec<u8> {

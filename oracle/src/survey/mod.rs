@@ -1,6 +1,8 @@
 //! What the program `survey` answers to a picture: the outline from its first start, clockwise, the outline simplified,
 //! and the numbers of what is left; each line as a frame of that kind is answered.
 
+pub mod compare;
+
 use crate::chart::{first_start, Chart};
 use crate::document::NO_WAY;
 use crate::frames::{digits, put_points, reply, walked};
@@ -11,13 +13,13 @@ use visioncortex::PointI32;
 const MOST_BYTES: usize = 600_000;
 
 /// A line for each call; one line for what is no picture.
-pub fn lines(file: &[u8]) -> Vec<String> {
+pub fn text(file: &[u8]) -> String {
     let file = &file[..file.len().min(MOST_BYTES)];
     let replies = match reader::read(file, Manners::NONE) {
         Ok(picture) => three(&picture.chart),
         Err(refusal) => vec![put_points(0, Err(refusal))],
     };
-    replies.iter().map(|reply| digits(reply)).collect()
+    replies.iter().map(|reply| digits(reply) + "\n").collect()
 }
 
 /// Behind the kind and the number of an answer stand its points as a frame has them: none, if it was refused.
