@@ -5,6 +5,7 @@ use crate::compare::{report, Differences};
 use crate::pbm::make::{any, plain, raw};
 use crate::random::Random;
 use crate::text::Line;
+use std::collections::BTreeMap;
 use std::io::{self, Read, Write};
 use std::process::{Command, ExitCode, Stdio};
 use std::thread;
@@ -12,9 +13,12 @@ use std::thread;
 pub fn compare(count: u64, seed: u64, ours: &[&str]) -> io::Result<ExitCode> {
     let mut random = Random::new(seed);
     let mut differences = Differences::default();
+    let mut kinds: BTreeMap<String, u64> = BTreeMap::new();
     for _ in 0..count {
         let file = picture(&mut random);
         let expected = super::text(&file);
+        let kind: Vec<&str> = expected.lines().map(|line| &line[..4]).collect();
+        *kinds.entry(kind.join(" ")).or_default() += 1;
         let answered = run(ours, &file)?;
         if answered != expected.as_bytes() {
             let mut case = Vec::new();
@@ -22,6 +26,8 @@ pub fn compare(count: u64, seed: u64, ours: &[&str]) -> io::Result<ExitCode> {
             differences.note(&case, expected.as_bytes(), &answered);
         }
     }
+    let kinds: Vec<String> = kinds.iter().map(|(kind, n)| format!("{kind} {n} times")).collect();
+    println!("lines that begin with {}", kinds.join(", "));
     report(&differences, count)?;
     Ok(if differences.count == 0 { ExitCode::SUCCESS } else { ExitCode::FAILURE })
 }
