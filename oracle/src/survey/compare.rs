@@ -1,6 +1,6 @@
 //! Runs our program `survey` on generated pictures, one after the other.
 
-use crate::chart::draw;
+use crate::chart::{draw, Chart};
 use crate::compare::{report, Differences};
 use crate::pbm::make::{any, plain, raw};
 use crate::random::Random;
@@ -56,6 +56,7 @@ fn picture(random: &mut Random) -> Vec<u8> {
         2 => draw::about_long(random),
         3 => draw::thin(random),
         4 => draw::noise(random, width, height),
+        7 if random.once_in(2) => rakes(random),
         5 if random.once_in(4) => draw::noise(random, 512, 512),
         6 if random.once_in(4) => draw::blobs(random, 512, 512),
         _ => draw::blobs(random, width, height),
@@ -68,4 +69,14 @@ fn picture(random: &mut Random) -> Vec<u8> {
         file.extend(b"P4 1 1 \x80");
     }
     file
+}
+
+/// Some rows with teeth on both their sides, too wide to be simplified away, joined at the left: thousands of points.
+fn rakes(random: &mut Random) -> Chart {
+    let (width, height) = (random.within(480, 512) as usize, 10 * random.within(1, 4) as usize);
+    Chart::of_rule(width, height, |x, y| match y % 10 {
+        4 | 5 => true,
+        0 | 9 => x < 2,
+        _ => x % 4 < 2,
+    })
 }
