@@ -25,6 +25,7 @@ use Rattle.ratios.specs.declared.Intersection.the-variants as Case
 use Rattle.frames.specs.Reply.{answerTo}
 use Rattle.measures.specs.Calls.{middleOf, normOf, normOfI32}
 use Rattle.outline.specs.Points.{pointAt}
+use Rattle.pbm.specs.Calls.{readOf, writtenOf}
 use Rattle.reduce.specs.Calls.{radialOf, douglasPeuckerOf, reduceOf, numberedOf, zoomOf}
 use Rattle.simplify.specs.Calls.{staircaseOf, penaltiesOf, simplifyOf}
 use Rattle.rounds.specs.Calls.{subdividedOf}
@@ -34,7 +35,7 @@ use Rattle.sqrt.specs.Root.{rootOf}
 use Rattle.texts.specs.Put.{put, Outcome as Text}
 use Rattle.util.specs.Area.{signedAreaOf}
 use Rattle.walks.specs.Walk.{walked as walkOf}
-use Rattle.sandline_c.specs.Handed.{Counted, Valued, passed, points, numbered, flagged, marked, reduced, walked, subdivided, crossing, started, celled, signed, midway, measured, begun, advancedTo}
+use Rattle.sandline_c.specs.Handed.{Counted, Valued, passed, points, numbered, flagged, marked, reduced, walked, written, pictured, subdivided, crossing, started, celled, signed, midway, measured, begun, advancedTo}
 use Rattle.sandline_c.specs.Read.{chart, point, place, placeAt, pair, settings, crossed}
 use Rattle.sandline_c.specs.declared.spiralling.Begun.{Begun}
 use Rattle.sandline_c.proofs.geometry.sandline_sqrt.Reads.{Post as Sqrt}
@@ -52,6 +53,8 @@ use Rattle.sandline_c.proofs.overlay.sandline_area.Reads.{Post as Area}
 use Rattle.sandline_c.proofs.overlay.sandline_first_start.Reads.{Post as First-start}
 use Rattle.sandline_c.proofs.overlay.sandline_walk.Reads.{Post as Walk}
 use Rattle.sandline_c.proofs.overlay.sandline_answer.Reads.{Post as Answer}
+use Rattle.sandline_c.proofs.pictures.sandline_read_pbm.Reads.{Post as Read-pbm}
+use Rattle.sandline_c.proofs.pictures.sandline_write_pbm.Reads.{Post as Write-pbm}
 use Rattle.sandline_c.proofs.smoothing.sandline_find_corners.Reads.{Post as Find-corners}
 use Rattle.sandline_c.proofs.smoothing.sandline_subdivide_keep_corners.Reads.{Post as Subdivide-keep-corners}
 use Rattle.sandline_c.proofs.thinning.sandline_remove_staircase.Reads.{Post as Remove-staircase}
@@ -123,6 +126,12 @@ walk-determined = same (λ x. walked (walkOf (chart (x .0) (x .1)) (x .2) (point
 
 pub answer-determined : Determined (List ℕ × List ℕ × ℕ) Text Answer (λ _ a. (now (a .0), now (a .1 .0), a .1 .1 .0)) (λ _ r s. record { next = r; out = now (s .1 .0) })
 answer-determined = same (λ x. put (answerTo (x .0)) (x .1) (x .2)) (λ _ a r s p. p)
+
+pub read-pbm-determined : Determined (List ℕ × List ℕ × List ℕ × List ℕ) (Counted (List ℕ × List ℕ × List ℕ)) Read-pbm (λ _ a. (now (a .0), now (a .1 .0), now (a .1 .1 .0), now (a .1 .1 .1 .0))) (λ _ r s. record { number = r; count = now (s .1 .1 .1 .1 .0); buffers = (now (s .1 .0), now (s .1 .1 .0), now (s .1 .1 .1 .0)) })
+read-pbm-determined = same (λ x. pictured (readOf (x .0) (x .1)) (x .2) (x .3)) (λ _ a r s p. p)
+
+pub write-pbm-determined : Determined (ℕ × ℕ × List ℕ × List ℕ) (Counted (List ℕ)) Write-pbm (λ _ a. (a .0, a .1 .0, now (a .1 .1 .0), now (a .1 .1 .1 .0))) (λ _ r s. record { number = r; count = now (s .1 .1 .1 .1 .0); buffers = now (s .1 .1 .1 .0) })
+write-pbm-determined = same (λ x. written (writtenOf (chart (x .0) (x .1)) (x .2) (x .3))) (λ _ a r s p. p)
 
 pub find-corners-determined : Determined (List ℤ × ℤ × ℤ × Bool × List ℕ) (Counted (List ℕ)) Find-corners (λ _ a. (now (a .0), a .1 .0, a .1 .1 .0, a .1 .1 .1 .0, now (a .1 .1 .1 .1 .0))) (λ _ r s. record { number = r; count = now (s .1 .1 .1 .1 .1 .0); buffers = now (s .1 .1 .1 .1 .0) })
 find-corners-determined = same (λ x. flagged (findCornersOf (x .0) (pair (x .1) (x .2)) (x .3) (x .4))) (λ _ a r s p. p)

@@ -16,6 +16,9 @@ use Rattle.bitmap.specs.Pixels.{pixelAt}
 use Rattle.bitmap.specs.declared.Chart.{Chart}
 use Rattle.corners.specs.Calls.{Outcome as Flagged, findCornersOf}
 use Rattle.passes.specs.Outcomes.{Outcome as Passed}
+use Rattle.pbm.specs.Calls.{Outcome as Read, Written}
+use Rattle.pbm.specs.declared.Picture.{Picture}
+use Rattle.pbm.specs.declared.Picture.the-variants as Picture
 use Rattle.reduce.specs.Calls.{Points, Numbered, Marked, Reduced}
 use Rattle.rounds.specs.Calls.{Outcome as Round}
 use Rattle.rounds.specs.declared.Subdivided.{Subdivided}
@@ -23,7 +26,7 @@ use Rattle.rounds.specs.declared.Subdivided.the-variants as Subdivided
 use Rattle.walks.specs.Answers.{walkedNumber, walkedCount}
 use Rattle.walks.specs.Walk.{Outcome as Walk, walked as walkOf}
 use Rattle.walks.specs.declared.Walked.{Walked}
-use Rattle.sandline_c.specs.Handed.{Counted, counted, passed, points, numbered, flagged, marked, reduced, walked, subdivided}
+use Rattle.sandline_c.specs.Handed.{Counted, counted, passed, points, numbered, flagged, marked, reduced, walked, written, pictured, subdivided}
 use Rattle.sandline_c.specs.Read.{point, pair}
 
 told : {B : Type 0} (a : Answer) (n : ℕ) (k : List ℕ) (b : B) → n ≡ numberOf a → k ≡ countOf a ∷ [] →
@@ -60,6 +63,22 @@ pub reduced-told : (a : Answer) (n : ℕ) (k : List ℕ) (out : List ℤ) (scrat
 unfolding reduced
 reduced-told a n k out scratch marks o e p q = told a n k (out, scratch, marks) p q ∙ ap reduced e
 
+pub written-told : (a : Answer) (n : ℕ) (k : List ℕ) (out : List ℕ) (o : Written) → record { answer = a; out = out } ≡ o → n ≡ numberOf a → k ≡ countOf a ∷ [] →
+    record { number = n; count = k; buffers = out } ≡ written o
+unfolding written
+written-told a n k out o e p q = told a n k out p q ∙ ap written e
+
+module _ (a : Picture) (pixels : List ℕ) (o : Read) (e : record { answer = a; pixels = pixels } ≡ o) (width height : List ℕ) where
+  pub picture-read : (c : Chart) (n : ℕ) → a ≡ Picture.Read c n →
+      record { number = 0; count = n ∷ []; buffers = (pixels, c .width ∷ [], c .height ∷ []) } ≡ pictured o width height
+  unfolding pictured
+  picture-read c n at = rw (← e, at)
+
+  pub picture-refused : (r : Refusal) (n : ℕ) → a ≡ Picture.Refused r → n ≡ refusalNumber r →
+      record { number = n; count = 0 ∷ []; buffers = (pixels, width, height) } ≡ pictured o width height
+  unfolding pictured
+  picture-refused r n at p = rw (← e, at, p)
+
 outlined : (a : Walked) (n k : ℕ) (out : List ℤ) (o : Walk) → record { answer = a; out = out } ≡ o → n ≡ walkedNumber a → k ≡ walkedCount a →
     record { number = n; count = k ∷ []; buffers = out } ≡ walked o
 unfolding walked
@@ -95,4 +114,4 @@ pub pixel-told : (r : Bool) (c : Chart) (pixels : List ℕ) (x y : ℤ) → r �
     SFits w32 x → SFits w32 y → r ≡ pixelAt c pixels x y
 pixel-told r c pixels x y e fx fy = e ∙ rw (toZ-ofZ fx, toZ-ofZ fy)
 
-pub ruleset laws = (passed-told, points-told, numbered-told, flagged-told, marked-told, reduced-told, round-done, round-refused, walk-told, corners-told, pixel-told, needs)
+pub ruleset laws = (passed-told, points-told, numbered-told, flagged-told, marked-told, reduced-told, written-told, picture-read, picture-refused, round-done, round-refused, walk-told, corners-told, pixel-told, needs)

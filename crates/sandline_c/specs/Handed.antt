@@ -18,6 +18,9 @@ use Rattle.measures.specs.Answers.{midPointNumber, midPointValues, measureNumbe
 use Rattle.measures.specs.declared.Measure.{Measure}
 use Rattle.measures.specs.declared.MidPoint.{MidPoint}
 use Rattle.passes.specs.Outcomes.{Outcome as Passed}
+use Rattle.pbm.specs.Calls.{pictureNumber, Outcome as Read, Written}
+use Rattle.pbm.specs.declared.Picture.{Picture}
+use Rattle.pbm.specs.declared.Picture.the-variants as Picture
 use Rattle.reduce.specs.Calls.{Points, Numbered, Marked, Reduced}
 use Rattle.rounds.specs.Answers.{subdividedNumber, subdividedCount}
 use Rattle.rounds.specs.Calls.{Outcome as Round}
@@ -67,6 +70,30 @@ reduced o = counted (o .answer) (o .out, o .scratch, o .marks)
 
 unfoldable pub walked : Walk → Counted (List ℤ)
 walked o = record { number = walkedNumber (o .answer); count = walkedCount (o .answer) ∷ []; buffers = o .out }
+
+unfoldable pub written : Written → Counted (List ℕ)
+written o = counted (o .answer) (o .out)
+
+-- the bytes that an image took
+abbrev pub taken : Picture → ℕ
+taken (Picture.Read c bytes) = bytes
+taken (Picture.Refused r) = 0
+
+-- the sizes of a picture, told where it was read
+abbrev pub widthOr : Picture → List ℕ → List ℕ
+widthOr (Picture.Read c bytes) old = c .width ∷ []
+widthOr (Picture.Refused r) old = old
+
+abbrev pub heightOr : Picture → List ℕ → List ℕ
+heightOr (Picture.Read c bytes) old = c .height ∷ []
+heightOr (Picture.Refused r) old = old
+
+unfoldable pub pictured : Read → List ℕ → List ℕ → Counted (List ℕ × List ℕ × List ℕ)
+pictured o width height = record {
+  number = pictureNumber (o .answer);
+  count = taken (o .answer) ∷ [];
+  buffers = (o .pixels, widthOr (o .answer) width, heightOr (o .answer) height);
+}
 
 -- whether the round is finished, told where it was made
 abbrev pub finishedOr : Subdivided → List Bool → List Bool

@@ -9,6 +9,7 @@ mod crossings;
 mod geometry;
 mod handing;
 mod overlay;
+mod pictures;
 mod smoothing;
 mod spiralling;
 mod thinning;
