@@ -35,7 +35,8 @@
 //
 // WHAT EVERY CALL HAS IN COMMON
 //
-// A call that can refuse returns 0 (SANDLINE_DONE), or the least number below that applies.
+// A call that can refuse returns 0 (SANDLINE_DONE), or the least number below that applies; a picture that cannot be
+// read is told before no room, 12 before 10.
 //
 // Refused: the count, if the call has one, is set to 0, and everything else that was lent holds what it held,
 // scratch too.
@@ -44,7 +45,8 @@
 //
 // Room that is asked for hangs on the input's length alone, so that a caller who lends it is never refused
 // for it: n points ask for n places, a single one for 2, and a place for a point is 2 elements. More room is
-// never harmful. Only a walk asks for as many places as its outline has points.
+// never harmful. Only a walk asks for as many places as its outline has points, and a chart that is read for what its
+// picture says.
 //
 // WHAT YOU OWE
 //
@@ -87,7 +89,7 @@
 extern "C" {
 #endif
 
-// Why a call hands nothing out. If several apply the least is given.
+// Why a call hands nothing out. If several apply the least is given, but 12 before 10.
 enum sandline_number {
     SANDLINE_DONE = 0,
     SANDLINE_BAD_SIZE = 1,      // a chart's or a spiral's size out of range, a spiral's field, too few bytes
@@ -100,7 +102,8 @@ enum sandline_number {
     SANDLINE_NO_WAY = 8,        // no way on from the start of a walk, or a chart without a set pixel
     SANDLINE_STUCK = 9,         // after some run a walk has over 1,000,000 steps: it does not come back to its start
     SANDLINE_NO_ROOM = 10,      // a lent buffer is too short
-    SANDLINE_BAD_FRAME = 11     // only in the answers of sandline_answer: no frame
+    SANDLINE_BAD_FRAME = 11,    // only in the answers of sandline_answer: no frame
+    SANDLINE_BAD_PICTURE = 12   // no PBM picture, or not all of one
 };
 
 // ---- Charts. Each refuses a bad size or too few bytes: SANDLINE_BAD_SIZE.
@@ -119,6 +122,39 @@ uint8_t sandline_area(size_t width, size_t height, const uint8_t *pixels, size_t
 // Stack of sandline_first_start: 16 bytes.
 uint8_t sandline_first_start(size_t width, size_t height, const uint8_t *pixels, size_t bytes,
                              int32_t start[2]);
+
+// ---- Pictures: charts out of Netpbm's PBM files, and into them.
+
+// Reads the picture at the start of file, raw (P4) or plain (P1), into a chart: its rows at the start of pixels with
+// their padding cleared, its sizes in width and height. Count is how many bytes of the file the picture takes. What
+// stands behind them is not looked at: the next picture, if there is one, begins at file + count.
+//
+//     static uint8_t pixels[32768]; // room for every chart
+//     size_t width, height, n;
+//     if (sandline_read_pbm(file, length, pixels, sizeof pixels, &width, &height, &n) == SANDLINE_DONE &&
+//         sandline_first_start(width, height, pixels, sizeof pixels, start) == SANDLINE_DONE) // and so on, as above
+//
+// A picture is P4 or P1, the width and the height in decimal digits, and the raster. White space or comments stand
+// before each size, a comment being all from # to the end of its line; before the raster stands one byte of white
+// space, or one comment with the end of its line. A raw raster lies as a chart does. A plain one has a digit for each
+// pixel, 1 for a set one, with white space between them or without.
+//
+// Room: (width + 7) / 8 * height bytes.
+// Refuses: a size out of range (1), as soon as both sizes are read; no room (10), and that last; what is no picture,
+// a byte of a plain raster that is not 0, 1 or white space, missing pixels (12). Refused, width and height hold what
+// they held.
+// Stack of sandline_read_pbm: 144 bytes.
+uint8_t sandline_read_pbm(const uint8_t *file, size_t length, uint8_t *pixels, size_t room, size_t *width,
+                          size_t *height, size_t *count);
+
+// Writes a chart to out as a raw picture: P4, newline, the width, a space, the height, newline, and the rows with their
+// padding cleared. Reading it gives the chart back. Count is in bytes.
+//
+// Room: as many bytes, 7 to 11 for the header and (width + 7) / 8 * height for the rows; 32,779 hold every chart.
+// Refuses: a bad chart (1), no room (10).
+// Stack of sandline_write_pbm: 80 bytes.
+uint8_t sandline_write_pbm(size_t width, size_t height, const uint8_t *pixels, size_t bytes, uint8_t *out,
+                           size_t room, size_t *count);
 
 // ---- Outlines.
 

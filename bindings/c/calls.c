@@ -3,6 +3,7 @@
 //
 // What is expected is nowhere taken from the library itself. The word in brackets says where it comes from:
 //   01       document 01: its worked cases ("Both sides of each edge", P1 to P12 among them) and its rules
+//   02       document 02, the request of that number
 //   refusal  document 01, "Numbers handed back"
 //   oracle   the answer of the original Rust to the same call (oracle/answer; the case is quoted beside it)
 //   here     what sandline.h says of C: null with length 0, places that hold what they held
@@ -155,6 +156,51 @@ static void walks(void) {
     expect("sandline_walk", "refusal", "1 0");
     put_answer(sandline_walk(1, 1, one, 1, 0, 0, true, NULL, 0, &count));
     expect("sandline_walk", "here", "10 0");
+}
+
+// Reads a picture of so many bytes into so much room, and puts what comes of it.
+static void read_picture(const char *file, size_t length, size_t room) {
+    size_t width = OLD_COUNT, height = OLD_COUNT;
+    put_answer(sandline_read_pbm((const uint8_t *)file, length, room ? flags : NULL, room, &width, &height, &count));
+    put(" %zu,%zu", width, height);
+    put_bytes(flags, 3);
+}
+
+#define READ(file, room) read_picture(file, sizeof file - 1, room)
+
+static void pictures(void) {
+    READ("P4 1 1\n\xff", 1);
+    expect("sandline_read_pbm", "02, 1/13", "0 8 1,1 128,238,238"); // padding is cleared
+    READ("P1#sand\n2 2\n01 10", 3);
+    expect("sandline_read_pbm", "02, 1/13", "0 17 2,2 64,128,238"); // a row a byte, the leftmost pixel the highest bit
+    READ("P1 2 2\n01102", 2);
+    expect("sandline_read_pbm", "02, 1/13", "0 11 2,2 64,128,238"); // what stands behind the image is not looked at
+    READ("P4 9 1\n\xff\xffP4", 2);
+    expect("sandline_read_pbm", "02, 1/13", "0 9 9,1 255,128,238");
+    READ("P5 1 1\n\xff", 1);
+    expect("sandline_read_pbm", "02, 1/13", "12 0 77,77 238,238,238");
+    READ("P4 9 1\n\xff", 2);
+    expect("sandline_read_pbm", "02, 1/13", "12 0 77,77 238,238,238"); // the second byte of the row is missing
+    READ("P1 2 1\n12", 0);
+    expect("sandline_read_pbm", "02, 1/13", "12 0 77,77 238,238,238"); // before 10
+    READ("P4 513 1", 0);
+    expect("sandline_read_pbm", "02, 1/13", "1 0 77,77 238,238,238"); // before what is missing behind the sizes
+    READ("P4 9 1\n\xff\xff", 1);
+    expect("sandline_read_pbm", "02, 1/13", "10 0 77,77 238,238,238");
+    read_picture(NULL, 0, 0);
+    expect("sandline_read_pbm", "here", "12 0 77,77 238,238,238");
+
+    put_answer(sandline_write_pbm(10, 2, wide, 4, text, 13, &count));
+    put_bytes(text, 14);
+    expect("sandline_write_pbm", "02, 1/13", "0 12 80,52,10,49,48,32,50,10,255,192,0,64,46,46"); // P4, newline, 10 2
+    put_answer(sandline_write_pbm(10, 2, wide, 4, text, 11, &count));
+    put_bytes(text, 1);
+    expect("sandline_write_pbm", "02, 1/13", "10 0 46");
+    put_answer(sandline_write_pbm(10, 2, wide, 3, text, 11, &count));
+    put_bytes(text, 1);
+    expect("sandline_write_pbm", "refusal", "1 0 46"); // before 10
+    put_answer(sandline_write_pbm(1, 1, one, 1, NULL, 0, &count));
+    expect("sandline_write_pbm", "here", "10 0");
 }
 
 static void outlines(void) {
@@ -508,11 +554,25 @@ static void example(void) {
     expect("the header's example", "01, P1 and P3", " 0,0,0,0");
 }
 
+// The example of sandline_read_pbm, of a picture of one set pixel.
+static void picture_example(void) {
+    const uint8_t *file = (const uint8_t *)"P1 2 1 01";
+    size_t length = 9;
+    static uint8_t pixels[32768];
+    size_t width, height, n;
+    int32_t start[2];
+    if (sandline_read_pbm(file, length, pixels, sizeof pixels, &width, &height, &n) == SANDLINE_DONE &&
+        sandline_first_start(width, height, pixels, sizeof pixels, start) == SANDLINE_DONE)
+        put_values(start, 2);
+    expect("the example of sandline_read_pbm", "02, 1/13", " 1,0");
+}
+
 int main(void) {
     long_list[8192] = long_list[8193] = 7;
     fill();
     charts();
     walks();
+    pictures();
     outlines();
     zooms();
     geometry();
@@ -520,6 +580,7 @@ int main(void) {
     spirals();
     frames();
     example();
+    picture_example();
     printf("%d lines, %d not as expected\n", calls, wrong);
     return wrong ? 1 : 0;
 }

@@ -250,6 +250,23 @@ static void walk(void) {
     show_values(out);
 }
 
+static void read_pbm(void) {
+    bytes file = bytes_list(), pixels = lend_bytes();
+    size_t width = 0, height = 0;
+    uint8_t number =
+        sandline_read_pbm(file.at, file.length, AT(pixels), pixels.length, &width, &height, &count);
+    printf("%d %zu %zu %zu", number, width, height, count);
+    count = 77;
+    show_bytes(pixels);
+}
+
+static void write_pbm(void) {
+    size_t width = size(), height = size();
+    bytes rows = bytes_list(), out = lend_bytes();
+    show_answer(sandline_write_pbm(width, height, rows.at, rows.length, AT(out), out.length, &count));
+    show_bytes(out);
+}
+
 static void show_spiral(const sandline_spiral_walker *s) {
     printf(" %d %d %d %d %d %d %d %zu %zu", (int)s->x, (int)s->y, (int)s->dir, (int)s->gx, (int)s->gy, (int)s->sq,
            (int)s->cc, s->area, s->step);
@@ -444,6 +461,8 @@ static const struct {
     {"area", area},
     {"first_start", first_start},
     {"walk", walk},
+    {"read_pbm", read_pbm},
+    {"write_pbm", write_pbm},
     {"spiral", spiral},
     {"spiral_step", spiral_step},
     {"remove_staircase", remove_staircase},
