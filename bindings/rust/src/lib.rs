@@ -8,7 +8,8 @@
 //!
 //! A call that cannot be done answers a [`Refusal`], the lowest that applies, and then every lent
 //! slice holds what it held, scratch too. After an answer the places behind it hold what they held.
-//! Room is judged on the length of the input alone: [`places`] says how much is asked for.
+//! Room is judged on the length of the input alone: [`places`] says how much is asked for. (Of a picture
+//! that is read, it is judged on its sizes, and after all else.)
 //!
 //! # From pixels to zooms
 //!
@@ -51,6 +52,7 @@ mod charts;
 mod frames;
 mod geometry;
 mod outlines;
+mod pictures;
 mod raw;
 mod refusal;
 mod smoothing;
@@ -63,6 +65,7 @@ pub use geometry::{
     find_intersection, find_mid_point, norm, norm_i32, signed_area, sqrt, sqrt_bits, Intersection,
 };
 pub use outlines::{limit_penalties, remove_staircase, simplify};
+pub use pictures::{read_pbm, write_pbm, Picture};
 pub use refusal::Refusal;
 pub use smoothing::{find_corners, subdivide_keep_corners, Pair, Settings, Subdivided};
 pub use spirals::Spiral;

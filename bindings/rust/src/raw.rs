@@ -41,6 +41,25 @@ extern "C" {
         count: *mut usize,
     ) -> u8;
 
+    pub fn sandline_read_pbm(
+        file: *const u8,
+        length: usize,
+        pixels: *mut u8,
+        room: usize,
+        width: *mut usize,
+        height: *mut usize,
+        count: *mut usize,
+    ) -> u8;
+    pub fn sandline_write_pbm(
+        width: usize,
+        height: usize,
+        pixels: *const u8,
+        bytes: usize,
+        out: *mut u8,
+        room: usize,
+        count: *mut usize,
+    ) -> u8;
+
     pub fn sandline_remove_staircase(
         points: *const i32,
         length: usize,

@@ -2,7 +2,8 @@
 
 use core::fmt;
 
-/// Why a call hands nothing out, with document 01's numbers. Where several apply the lowest is given.
+/// Why a call hands nothing out, with document 01's numbers. Where several apply the lowest is given, but
+/// [`BadPicture`](Refusal::BadPicture) before [`NoRoom`](Refusal::NoRoom).
 #[derive(Clone, Copy, Debug, PartialEq, Eq, PartialOrd, Ord, Hash)]
 #[repr(u8)]
 pub enum Refusal {
@@ -29,9 +30,11 @@ pub enum Refusal {
     NoRoom = 10,
     /// Only in the answers of [`answer`](crate::answer): no frame.
     BadFrame = 11,
+    /// No PBM picture, or not all of one.
+    BadPicture = 12,
 }
 
-const ALL: [Refusal; 11] = [
+const ALL: [Refusal; 12] = [
     Refusal::BadSize,
     Refusal::TooMany,
     Refusal::BadPoint,
@@ -43,6 +46,7 @@ const ALL: [Refusal; 11] = [
     Refusal::Stuck,
     Refusal::NoRoom,
     Refusal::BadFrame,
+    Refusal::BadPicture,
 ];
 
 impl Refusal {
@@ -81,6 +85,7 @@ impl fmt::Display for Refusal {
             Refusal::Stuck => "the walk goes on past a million steps",
             Refusal::NoRoom => "a lent slice is too short",
             Refusal::BadFrame => "no frame",
+            Refusal::BadPicture => "no picture, or not all of one",
         })
     }
 }

@@ -1,5 +1,5 @@
-//! Document 01's worked cases and refusals, through the safe calls. What is expected is document 01's word,
-//! and nowhere what the library answered.
+//! Document 01's worked cases and refusals, and document 02's of pictures, through the safe calls. What is
+//! expected is their word, and nowhere what the library answered.
 
 use sandline::*;
 
@@ -58,6 +58,69 @@ fn charts() {
     let blank = Chart { width: 1, height: 2, pixels: &[0x7f, 0x7f] };
     assert_eq!((blank.area(), blank.first_start()), (Ok(0), Err(Refusal::NoWay)));
     assert!(!blank.pixel(0, 0) && !blank.pixel(1, 0) && chart(9, 2, 4).pixel(8, 1));
+}
+
+#[test]
+fn pictures() {
+    let read = |file: &[u8], room: usize| {
+        let mut pixels = [9; 4];
+        let answer = read_pbm(file, &mut pixels[..room])
+            .map(|Picture { chart, bytes }| (chart.width, chart.height, bytes));
+        (answer, pixels)
+    };
+    // One pixel, raw and plain, with what stands behind it left unread.
+    assert_eq!(read(b"P4 1 1 \xff", 1), (Ok((1, 1, 8)), [0x80, 9, 9, 9]));
+    assert_eq!(read(b"P1 1 1 1", 4), (Ok((1, 1, 8)), [0x80, 9, 9, 9]));
+    assert_eq!(read(b"P1 1 1 02", 4), (Ok((1, 1, 8)), [0, 9, 9, 9]));
+    // "with comments in the header", "may stand without spaces", "set padding to 0"
+    assert_eq!(read(b"P4#\n9#\n2#\n\x01\xff\x02\x7fP4", 4), (Ok((9, 2, 14)), [1, 0x80, 2, 0]));
+    assert_eq!(
+        read(b"P1\r9\t2\x0b\x0c100000001 0000 00010", 4),
+        (Ok((9, 2, 28)), [0x80, 0x80, 1, 0])
+    );
+    // "12 BadPicture for a wrong header, a plain raster byte other than 0, 1 or white space, or missing pixels"
+    for file in [
+        "", "P", "P4", "P4 1", "P4 1 1", "P2 1 1 1", "p1 1 1 1", "P11 1 1", "P1 1 1#1", "P1 1 1 2",
+        "P1 1 1 ",
+    ] {
+        assert_eq!(read(file.as_bytes(), 0), (Err(Refusal::BadPicture), [9; 4]), "{file}");
+    }
+    assert_eq!(read(b"P4 9 2 \xff\xff\xff", 4), (Err(Refusal::BadPicture), [9; 4]));
+    // "1 for a size out of range, tested as soon as both sizes are read"
+    for file in ["P4 0 1", "P1 1 513x", "P4 18446744073709551617 1 1"] {
+        assert_eq!(read(file.as_bytes(), 0), (Err(Refusal::BadSize), [9; 4]), "{file}");
+    }
+    // "10, last"
+    assert_eq!(read(b"P4 9 2 \xff\xff\xff\xff", 3), (Err(Refusal::NoRoom), [9; 4]));
+    assert_eq!(read(b"P1 1 1 1", 0), (Err(Refusal::NoRoom), [9; 4]));
+}
+
+#[test]
+fn pictures_read_back() {
+    let (rows, mut out, mut pixels) = ([0xff; 64 * 512], [9; 64 * 512 + 12], [9; 64 * 512]);
+    for (width, height, head) in
+        [(1_usize, 1, "P4\n1 1\n"), (9, 2, "P4\n9 2\n"), (512, 512, "P4\n512 512\n")]
+    {
+        let bytes = width.div_ceil(8) * height;
+        let chart = Chart { width, height, pixels: &rows[..bytes] };
+        let all = head.len() + bytes;
+        out.fill(9);
+        assert_eq!(write_pbm(chart, &mut out[..all - 1]), Err(Refusal::NoRoom));
+        assert_eq!(out, [9; 64 * 512 + 12]);
+        assert_eq!(write_pbm(chart, &mut out[..all]), Ok(all));
+        assert_eq!((&out[..head.len()], out[all]), (head.as_bytes(), 9));
+        let read = read_pbm(&out, &mut pixels).unwrap();
+        assert_eq!((read.bytes, read.chart.width, read.chart.height), (all, width, height));
+        assert_eq!(read.chart.area(), Ok(width * height));
+        assert_eq!(read.chart.pixels, &out[head.len()..all]);
+    }
+    // "1" of a chart as everywhere, before "10".
+    let refused = |width, bytes| {
+        write_pbm(Chart { width, height: 2, pixels: &rows[..bytes] }, &mut []).unwrap_err()
+    };
+    assert_eq!(refused(9, 4), Refusal::NoRoom);
+    assert_eq!(refused(9, 3), Refusal::BadSize);
+    assert_eq!(refused(513, 130), Refusal::BadSize);
 }
 
 #[test]
@@ -261,5 +324,5 @@ fn frames() {
 #[test]
 fn numbers_of_refusals() {
     let numbers = (0..=255).filter_map(Refusal::of_number).map(Refusal::number);
-    assert!(numbers.eq(1..=11));
+    assert!(numbers.eq(1..=12));
 }
