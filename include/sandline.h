@@ -76,9 +76,9 @@
 #include <stdint.h>
 
 // The version of this header, and of the archive that is made beside it (docs/CHANGES.md).
-#define SANDLINE_VERSION "1.0.0"
+#define SANDLINE_VERSION "1.1.0"
 #define SANDLINE_VERSION_MAJOR 1
-#define SANDLINE_VERSION_MINOR 0
+#define SANDLINE_VERSION_MINOR 1
 #define SANDLINE_VERSION_PATCH 0
 
 #if SIZE_MAX != UINT64_MAX
