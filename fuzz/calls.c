@@ -2,18 +2,20 @@
 // range and rooms mostly enough; else a value is damaged, or a room or a length is one short, or none, or any.
 //
 // Held against document 01 after each call (lent.h makes it twice, between pages that cannot be touched):
-// - The number is the least that applies. Which apply is worked out here, from the table "Numbers handed back".
+// - The number is the least that applies. Which apply is worked out here, from the table "Numbers handed back". Of a
+//   file it is what a reader here says, which is written from document 02, request 1/13.
 // - Refused: the count is 0, all else that was lent holds what it held. Done: places past the answer do.
 // - The points that a pass answers are points of its list, in their order; marks and flags are 0 or 1; simplify is its
 //   two passes; a zoom by the numbers is what Douglas-Peucker answers; roots are the processor's; an outline begins and
-//   ends at its start and goes along rows and columns; and so on, at each call below.
+//   ends at its start and goes along rows and columns; what is written of a chart is read back; and so on, at each call
+//   below.
 #include <math.h>
 
 #include "edges.h"
 #include "lent.h"
 #include "sandline.h"
 
-static lent *points, *numbers, *corners, *pixels, *out, *scratch, *marks, *count, *last;
+static lent *points, *numbers, *corners, *pixels, *file, *out, *scratch, *marks, *count, *last, *told[2];
 static size_t length, numbers_length, corners_length, width, height, bytes, room, scratch_room, mark_room, size;
 static int32_t x, y;
 static double ratio, segment, tolerance;
@@ -31,7 +33,8 @@ static const double *left_reals(const lent *l) { return (const double *)(const v
 
 // ---- what is counted, for the end of a run
 
-static uint64_t tally[32][12]; // by call and number
+enum { MOST_NUMBER = 12 };
+static uint64_t tally[32][MOST_NUMBER + 1]; // by call and number
 static unsigned current;
 
 // ---- the number that a call should give
@@ -73,7 +76,7 @@ static void expect_untouched(void) {
 // Makes the call; whether it is done. Every number is expected from `least` but those of `open`, a bit for each.
 static bool is_done_or(uint64_t (*call)(void), unsigned open) {
     uint64_t number = make(call);
-    expect(number <= 10, "a number that is none");
+    expect(number <= MOST_NUMBER && number != 11, "a number that is none");
     tally[current][number]++;
     if (!(least == 0 && open >> number & 1)) expect(number == least, "not the least number that applies");
     if (number != 0) expect_untouched();
@@ -741,6 +744,192 @@ static void run_spiral_advance(void) {
                 "a step from elsewhere");
 }
 
+// ---- pictures
+
+static uint64_t call_read_pbm(void) {
+    return sandline_read_pbm(file->at, length, out->at, room, AT(size_t, told[0]), AT(size_t, told[1]), COUNT);
+}
+static uint64_t call_write_pbm(void) {
+    return sandline_write_pbm(width, height, pixels->at, bytes, out->at, room, COUNT);
+}
+
+enum { CHART_MOST = 64 * 512 };
+static uint8_t made[LENT_MOST], rows[CHART_MOST]; // a file; and a chart's rows, without padding
+
+static void put_made(uint8_t b) {
+    if (length < LENT_MOST) made[length++] = b;
+}
+
+static void put_white(void) {
+    put_made((uint8_t)" \t\n\v\f\r"[draw() % 6]);
+}
+
+static void put_comment(void) {
+    put_made('#');
+    for (unsigned k = draw() % 8; k > 0; k--) put_made((uint8_t)" #P1470\x80"[draw() % 8]);
+    put_made(draw() % 2 ? '\n' : '\r');
+}
+
+// What stands before a size or the raster: mostly one byte of white space, at times nothing.
+static void put_between(void) {
+    uint8_t b = byte();
+    unsigned k = b < 160 ? 1 : b % 8;
+    for (; k > 0; k--) {
+        if (b < 160 || draw() % 3) put_white();
+        else put_comment();
+    }
+}
+
+static void put_size(size_t value) {
+    char digits[24];
+    put_between();
+    for (unsigned zeros = byte() < 16 ? byte() : 0; zeros > 0; zeros--) put_made('0');
+    snprintf(digits, sizeof digits, "%zu", value);
+    for (const char *d = digits; *d; d++) put_made((uint8_t)*d);
+}
+
+// The raster of a chart that is in range, with anything for its padding; plain, mostly with white space between rows.
+static void put_raster(bool plain) {
+    size_t row = (width + 7) / 8;
+    uint8_t spaced = byte();
+    draw_chart(width, row * height, rows);
+    for (size_t k = 0; !plain && k < row * height; k++) put_made(rows[k]);
+    for (size_t k = 0; plain && k < width * height; k++) {
+        if (spaced < 128 ? k % width == 0 : draw() % 256 < spaced) put_white();
+        put_made(rows[k / width * row + k % width / 8] >> (7 - k % width % 8) & 1 ? '1' : '0');
+    }
+}
+
+// A file: a picture, mostly good; at times with something behind it, cut off, or with bytes changed.
+static void make_file(void) {
+    static const size_t edges[] = {0, 1, 2, 7, 8, 9, 16, 17, 511, 512, 513, SIZE_MAX};
+    bool plain = byte() % 2;
+    size_t *sizes[] = {&width, &height};
+    length = 0;
+    drawn = word();
+    put_made('P'), put_made(plain ? '1' : '4');
+    for (int k = 0; k < 2; k++) {
+        uint8_t b = byte();
+        *sizes[k] = b < 48 ? edges[b % (sizeof edges / sizeof *edges)] : b < 250 ? b % 20u + 1 : 1 + word() % 512u;
+        put_size(*sizes[k]);
+    }
+    put_between();
+    if (width >= 1 && width <= 512 && height >= 1 && height <= 512) put_raster(plain);
+    uint8_t b = byte();
+    if (b < 128) return;
+    for (unsigned k = b % 4; k > 0; k--) put_made(byte());
+    if (b >= 192) length = b % 2 ? length - 1 : word() % (length + 1);
+    for (unsigned k = b >= 160 && length ? b % 3 : 0; k > 0; k--) made[word() % (b % 5 ? length : 1)] = byte();
+}
+
+static bool is_white(size_t at) { return made[at] == ' ' || (made[at] >= '\t' && made[at] <= '\r'); }
+static bool ends_line(size_t at) { return made[at] == '\n' || made[at] == '\r'; }
+
+// Reads a size behind white space and comments, at least one of them; whether there is one. One that is out of range
+// may come out as another such.
+static bool size_at(size_t *at, size_t *value) {
+    size_t from = *at, digits = 0;
+    while (*at < length && (is_white(*at) || made[*at] == '#')) {
+        if (made[*at] == '#')
+            while (*at < length && !ends_line(*at)) ++*at;
+        if (*at < length) ++*at;
+    }
+    if (*at == from) return false;
+    for (*value = 0; *at < length && made[*at] >= '0' && made[*at] <= '9'; ++*at, digits++)
+        if (*value < 1000) *value = *value * 10 + made[*at] - '0';
+    return digits > 0;
+}
+
+// What document 02 says of the file: the number, whatever room there is, and of a picture its sizes, its rows and where
+// it ends.
+static unsigned look_at_file(size_t *end) {
+    size_t at = 2;
+    if (length < 2 || made[0] != 'P' || (made[1] != '1' && made[1] != '4')) return 12;
+    if (!size_at(&at, &width) || !size_at(&at, &height)) return 12;
+    if (width < 1 || width > 512 || height < 1 || height > 512) return 1;
+    if (at == length || !(is_white(at) || made[at] == '#')) return 12;
+    if (made[at] == '#')
+        while (at + 1 < length && !ends_line(at)) at++;
+    at++;
+    size_t row = (width + 7) / 8;
+    memset(rows, 0, row * height);
+    for (size_t line = 0; line < height; line++)
+        for (size_t column = 0; column < width; column++) {
+            bool set;
+            if (made[1] == '1') {
+                while (at < length && is_white(at)) at++;
+                if (at >= length || (made[at] != '0' && made[at] != '1')) return 12;
+                set = made[at++] == '1';
+            } else {
+                size_t k = at + line * row + column / 8;
+                if (k >= length) return 12;
+                set = made[k] >> (7 - column % 8) & 1;
+            }
+            if (set) rows[line * row + column / 8] |= (uint8_t)(0x80 >> column % 8);
+        }
+    *end = made[1] == '1' ? at : at + row * height;
+    return 0;
+}
+
+static void expect_picture(size_t end) {
+    size_t asked = (width + 7) / 8 * height, sizes[2];
+    for (int k = 0; k < 2; k++) memcpy(&sizes[k], told[k]->left, sizeof sizes[k]);
+    expect(counted() == end, "the picture ends elsewhere");
+    expect(sizes[0] == width && sizes[1] == height, "the sizes are others");
+    expect(memcmp(out->left, rows, asked) == 0, "the pixels are others");
+    expect(is_old_from(out, asked), "a byte past the chart is written");
+}
+
+static void run_read_pbm(void) {
+    make_file();
+    file = lend(length, false);
+    memcpy(file->held, made, length);
+    size_t end = 0;
+    unsigned number = look_at_file(&end);
+    applies(number, number != 0);
+    lend_out(number == 0 ? (width + 7) / 8 * height : byte(), 1);
+    for (int k = 0; k < 2; k++) told[k] = lend(sizeof(size_t), true);
+    lend_count();
+    applies(10, number == 0 && room < (width + 7) / 8 * height);
+    if (!is_done(call_read_pbm)) return;
+    expect_picture(end);
+
+    // The same without what stands behind the picture; and without its last byte none.
+    file->bytes = length = end;
+    expect(is_done(call_read_pbm), "another picture without what stands behind it");
+    expect_picture(end);
+    file->bytes = --length;
+    least = 12;
+    is_done(call_read_pbm);
+}
+
+static void run_write_pbm(void) {
+    static uint8_t back[CHART_MOST];
+    char head[16];
+    lend_chart();
+    judge_chart();
+    size_t row = (width + 7) / 8, asked = byte(), n = 0;
+    if (least == 0) {
+        n = (size_t)snprintf(head, sizeof head, "P4\n%zu %zu\n", width, height);
+        asked = n + row * height;
+    }
+    lend_out(asked, 1);
+    lend_count();
+    applies(10, least == 0 && room < asked);
+    if (!is_done(call_write_pbm)) return;
+    expect(counted() == asked && memcmp(out->left, head, n) == 0, "another header");
+    expect(is_old_from(out, asked), "a byte past the picture is written");
+    for (size_t k = 0; k < row * 8 * height; k++) {
+        size_t column = k % (row * 8), line = k / (row * 8);
+        bool set = out->left[n + line * row + column / 8] >> (7 - column % 8) & 1;
+        expect(set == is_set((int64_t)column, (int64_t)line), "a pixel is another, or padding is set");
+    }
+    size_t sizes[2], end;
+    expect(sandline_read_pbm(out->left, asked, back, sizeof back, &sizes[0], &sizes[1], &end) == 0 && end == asked &&
+               sizes[0] == width && sizes[1] == height && memcmp(back, out->left + n, row * height) == 0,
+           "what is written is not read back");
+}
+
 // ---- all of them
 
 static const struct {
@@ -773,6 +962,8 @@ static const struct {
     {"sandline_subdivide_keep_corners", run_subdivide},
     {"sandline_spiral", run_spiral},
     {"sandline_spiral_advance", run_spiral_advance},
+    {"sandline_read_pbm", run_read_pbm},
+    {"sandline_write_pbm", run_write_pbm},
 };
 enum { CALLS = sizeof all / sizeof *all };
 
@@ -781,7 +972,7 @@ static void print_tally(void) {
     uint64_t done = 0, refused = 0;
     for (unsigned k = 0; k < CALLS; k++) {
         printf("call %-34s", all[k].name);
-        for (int n = 0; n < 12; n++) {
+        for (int n = 0; n <= MOST_NUMBER; n++) {
             *(n ? &refused : &done) += tally[k][n];
             if (tally[k][n]) printf(" %d:%llu", n, (unsigned long long)tally[k][n]);
         }

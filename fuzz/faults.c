@@ -25,7 +25,7 @@ uint8_t __wrap_sandline_numbers(const int32_t *points, size_t length, double *ou
     case '8': if (number == 10) number = 0; break;                       // done, without room
     case '9': if (number == 0) out[0] = (double)turn++; break;           // each call answers something else
     case 'a': if (length == 10) for (;;) seen = 0; break;                // does not end
-    case 'b': if (number == 4 && length == 0) number = 12; break;        // a number that is none
+    case 'b': if (number == 4 && length == 0) number = 13; break;        // a number that is none
     }
     return number;
 }
