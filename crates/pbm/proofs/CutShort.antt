@@ -1,15 +1,16 @@
 -- The count of bytes is exact: a file that ends before the last byte of its image is refused. Assumes nothing.
 use Prim.Native.Nat.{ℕ, _≤_, _<_}
 use mathlib.Core.List.{List}
-use mathlib.Core.Path.{_≡_}
+use mathlib.Core.Path.{_≡_, ap}
 use native.Mathlib.Omega.{arith}
 use lib.ListN.{length, take, drop, take-append-drop}
 use lib.Seq.{length-take-le}
 use Rattle.refusals.specs.declared.Refusal.{Refusal}
 use Rattle.bitmap.specs.declared.Chart.{Chart}
-use Rattle.pbm.specs.Calls.{refused, readOf}
+use Rattle.pbm.specs.Calls.{Outcome, refused, readOf}
 use Rattle.pbm.specs.declared.Picture.the-variants as Picture
-use Rattle.pbm.proofs.Behind.{Told, told-refused, told-read, told, taken-at-most, nothing-more-matters}
+use Rattle.pbm.proofs.Told.{Told, told-refused, told-read, told}
+use Rattle.pbm.proofs.Behind.{taken-at-most, nothing-more-matters}
 
 -- no image is read of it: the bytes that were cut off would be bytes behind that image, and the whole file gives the same one
 pub cut-short : (file pixels : List ℕ) (c : Chart) (n : ℕ) → readOf file pixels .answer ≡ Picture.Read c n
@@ -33,4 +34,4 @@ cut-short-is-refused file pixels c n read k short = go (told (take k file) pixel
   where
     go : Told (take k file) pixels → Refuses (take k file) pixels
     go (told-refused r e) = record { refusal = r; leaves = e }
-    go (told-read m f e) = absurd (cut-short file pixels c n read k short (f .header .chart) m e)
+    go (told-read m f room e) = absurd (cut-short file pixels c n read k short (f .header .chart) m (ap (λ (o : Outcome). o .answer) e))

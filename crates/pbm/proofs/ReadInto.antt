@@ -1,25 +1,20 @@
 -- What an answer with a chart says of the buffer: its start has the chart's bytes, and the chart is good. Assumes nothing.
-use Prim.Native.Nat.{ℕ, _-_, _*_, _≤_}
+use Prim.Native.Nat.{ℕ, _*_, _≤_}
 use mathlib.Core.Bool.{Bool, true, false, not, _||_}
 use mathlib.Core.List.{List}
-use mathlib.Core.Option.{Option, some, none}
-use mathlib.Core.Path.{_≡_, refl, ap, subst}
+use mathlib.Core.Path.{_≡_, sym, ap, subst, _∙_}
 use native.Mathlib.Omega.{arith}
-use lib.Dec.{ltb}
 use lib.ListN.{length}
 use borrow.Author.Tests.{le-ltb, ltb-false, not-false}
 use Rattle.laws.specs.Joined.{both-false}
 use Rattle.laws.specs.Lists.{over, length-over}
-use Rattle.refusals.specs.declared.Refusal.{Refusal}
-use Rattle.refusals.specs.declared.Refusal.the-variants.{BadSize, NoRoom, BadPicture}
 use Rattle.bitmap.specs.Pixels.{rowBytes, side, badChart}
 use Rattle.bitmap.specs.declared.Chart.{Chart}
-use Rattle.pbm.specs.Header.{Header, headerIn}
-use Rattle.pbm.specs.Raster.{Image, imageIn}
 use Rattle.pbm.specs.Bytes.{chartBytes}
-use Rattle.pbm.specs.Calls.{Outcome, refused, laid, readBehind, readOf}
+use Rattle.pbm.specs.Calls.{Outcome, readOf}
 use Rattle.pbm.specs.declared.Picture.the-variants.{Read}
 use Rattle.pbm.proofs.Bytes.{length-chartBytes}
+use Rattle.pbm.proofs.Told.{Told, told-refused, told-read, told, refused-is-not-read}
 
 -- where a chart was read: its bytes lie over the start of the buffer, and nothing of what is refused holds
 pub record ReadInto (c : Chart) (buffer pixels : List ℕ) : Type 0 where
@@ -29,47 +24,23 @@ pub record ReadInto (c : Chart) (buffer pixels : List ℕ) : Type 0 where
   pub room : rowBytes (c .width) * c .height ≤ length buffer
   pub lies : pixels ≡ over (chartBytes c set) buffer
 
-abbrev Says : List ℕ → Outcome → Type 0
-Says buffer o = (c : Chart) (n : ℕ) → o .answer ≡ Read c n → ReadInto c buffer (o .pixels)
-
-refused-so : (buffer : List ℕ) (r : Refusal) → Says buffer (refused r buffer)
-refused-so buffer r c n e = absurd (let z : _≡_ {A = ℕ} 0 1 = cc in omega arith)
-
-module _ (file buffer : List ℕ) where
-  laid-so : (c : Chart) (image : Image) → side (c .width) ≡ true → side (c .height) ≡ true → Says buffer (laid file c image buffer)
-  unfolding laid
-  laid-so c image wide high = by-test (ltb (length buffer) (rowBytes (c .width) * c .height)) refl
-    where
-      here : ltb (length buffer) (rowBytes (c .width) * c .height) ≡ false → ReadInto c buffer (over (chartBytes c (image .set)) buffer)
-      here t = record { set = image .set; wide = wide; high = high; room = ltb-false _ _ t; lies = refl }
-
-      by-test : (t : Bool) → ltb (length buffer) (rowBytes (c .width) * c .height) ≡ t → Says buffer (elim t [
-        | true ↦ refused NoRoom buffer
-        | false ↦ record { answer = Read c (length file - length (image .rest)); pixels = over (chartBytes c (image .set)) buffer }
-      ])
-      by-test true t d n e = refused-so buffer NoRoom d n e
-      by-test false t d n e = let same : c ≡ d = cc in subst (λ (d : Chart). ReadInto d buffer (over (chartBytes c (image .set)) buffer)) same (here t)
-
-  behind-so : (h : Header) → Says buffer (readBehind file h buffer)
-  unfolding readBehind
-  behind-so h = by-tests (side (h .chart .width)) (side (h .chart .height)) (imageIn h) refl refl
-    where
-      by-tests : (w v : Bool) (i : Option Image) → side (h .chart .width) ≡ w → side (h .chart .height) ≡ v → Says buffer (elim (not w || not v) [
-        | true ↦ refused BadSize buffer
-        | false ↦ elim i [ none ↦ refused BadPicture buffer | some image ↦ laid file (h .chart) image buffer ]
-      ])
-      by-tests false v i p q = refused-so buffer BadSize
-      by-tests true false i p q = refused-so buffer BadSize
-      by-tests true true none p q = refused-so buffer BadPicture
-      by-tests true true (some image) p q = laid-so (h .chart) image p q
-
-  pub read-into : Says buffer (readOf file buffer)
-  unfolding readOf
-  read-into = by-header (headerIn file)
-    where
-      by-header : (o : Option Header) → Says buffer (elim o [ none ↦ refused BadPicture buffer | some h ↦ readBehind file h buffer ])
-      by-header none = refused-so buffer BadPicture
-      by-header (some h) = behind-so h
+pub read-into : (file buffer : List ℕ) (c : Chart) (n : ℕ) → readOf file buffer .answer ≡ Read c n → ReadInto c buffer (readOf file buffer .pixels)
+read-into file buffer c n read = go (told file buffer)
+  where
+    go : Told file buffer → ReadInto c buffer (readOf file buffer .pixels)
+    go (told-refused r e) = absurd (refused-is-not-read r c n (ap (λ (o : Outcome). o .answer) (sym e) ∙ read))
+    go (told-read m f room e) =
+        let said : Read (f .header .chart) m ≡ Read c n = ap (λ (o : Outcome). o .answer) (sym e) ∙ read in
+        let same : f .header .chart ≡ c = cc in
+        let sides = both-false (not (side (f .header .chart .width))) (not (side (f .header .chart .height))) (f .sized) in
+        subst (λ (c : Chart). ReadInto c buffer (readOf file buffer .pixels)) same
+        (record {
+          set = f .image .set;
+          wide = not-false _ (sides .0);
+          high = not-false _ (sides .1);
+          room = room;
+          lies = ap (λ (o : Outcome). o .pixels) e;
+        })
 
 -- ---- a chart that is not bad
 
