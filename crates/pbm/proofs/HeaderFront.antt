@@ -41,11 +41,11 @@ abbrev leaving : Number → List ℕ → Number
 leaving m o = record { value = m .value; rest = o }
 
 -- the definition, by its test
-digits-go-on : (n b : ℕ) (bs : List ℕ) → digit b ≡ true → digitsFrom n (b ∷ bs) ≡ digitsFrom (n * 10 + (b - 48)) bs
+pub digits-go-on : (n b : ℕ) (bs : List ℕ) → digit b ≡ true → digitsFrom n (b ∷ bs) ≡ digitsFrom (n * 10 + (b - 48)) bs
 unfolding digitsFrom
 digits-go-on n b bs e = rw (e, digitsFrom)
 
-digits-stop : (n : ℕ) (bs : List ℕ) → begins digit bs ≡ false → digitsFrom n bs ≡ record { value = n; rest = bs }
+pub digits-stop : (n : ℕ) (bs : List ℕ) → begins digit bs ≡ false → digitsFrom n bs ≡ record { value = n; rest = bs }
 unfolding digitsFrom
 digits-stop n [] e = refl
 digits-stop n (b ∷ bs) e = rw (e, digitsFrom)
@@ -99,7 +99,7 @@ unfolding behind
 behind-stops comment b bs e = rw (e, behind)
 
 -- no comment is open
-stops-at-a-digit : (bs : List ℕ) → begins digit bs ≡ true → behind false bs ≡ bs
+pub stops-at-a-digit : (bs : List ℕ) → begins digit bs ≡ true → behind false bs ≡ bs
 stops-at-a-digit [] h = absurd (false≢true h)
 stops-at-a-digit (b ∷ bs) h = behind-stops false b bs (digit-parts-nothing b h)
 
@@ -132,7 +132,7 @@ size-is-parted bs m is = go (parted bs) refl
     go false e = absurd (Option·none-ne-some m (rw (e, sizeIn) at is))
 
 -- the definition, behind that byte
-size-is : (b : ℕ) (bs : List ℕ) → (white b || hash b) ≡ true → sizeIn (b ∷ bs) ≡ numberIn (behind (hash b) bs)
+pub size-is : (b : ℕ) (bs : List ℕ) → (white b || hash b) ≡ true → sizeIn (b ∷ bs) ≡ numberIn (behind (hash b) bs)
 unfolding sizeIn
 size-is b bs e = rw (e, sizeIn) (ap numberIn (behind-goes-on false b bs e))
 
@@ -157,7 +157,7 @@ abbrev pub headed : Header → List ℕ → Header
 headed h o = record { plain = h .plain; chart = h .chart; rest = o }
 
 -- the definition, where both are there
-sizes-are : (plain : Bool) (bs : List ℕ) (w h : Number) → sizeIn bs ≡ some w → sizeIn (w .rest) ≡ some h
+pub sizes-are : (plain : Bool) (bs : List ℕ) (w h : Number) → sizeIn bs ≡ some w → sizeIn (w .rest) ≡ some h
     → sizesIn plain bs ≡ some (record { plain = plain; chart = record { width = w .value; height = h .value }; rest = h .rest })
 unfolding sizesIn
 sizes-are plain bs w h e f = rw (e, sizesIn, f)

@@ -8,6 +8,7 @@ use Rattle.bitmap.specs.declared.Chart.{Chart}
 use Rattle.texts.specs.Text.{naturalText}
 use Rattle.pbm.specs.Header.{white, hash, digit, sizesIn, headerIn}
 use Rattle.pbm.proofs.Numerals.{size-read}
+use Rattle.pbm.proofs.HeaderFront.{sizes-are}
 
 -- "newline, width, space, height, newline"
 abbrev pub sizesText : Chart → List ℕ
@@ -20,11 +21,11 @@ module _ (c : Chart) (wide : c .width ≤ 512) (high : c .height ≤ 512) (raste
       ∙ append-assoc (10 ∷ naturalText (c .width)) (32 ∷ naturalText (c .height)) (10 ∷ raster)
 
   sizes-read : (plain : Bool) → sizesIn plain (sizesText c ++ raster) ≡ some (record { plain = plain; chart = c; rest = 10 ∷ raster })
-  unfolding sizesIn white hash digit
+  unfolding white hash digit
   sizes-read plain =
       let behind-width : List ℕ = 32 ∷ (naturalText (c .height) ++ (10 ∷ raster)) in
       ap (sizesIn plain) in-turn
-      ∙ rw (size-read (c .width) behind-width wide refl 10 refl refl, sizesIn, size-read (c .height) (10 ∷ raster) high refl 32 refl refl)
+      ∙ sizes-are plain _ _ _ (size-read (c .width) behind-width wide refl 10 refl refl) (size-read (c .height) (10 ∷ raster) high refl 32 refl refl)
 
   pub raw-read : headerIn (80 ∷ 52 ∷ sizesText c ++ raster) ≡ some (record { plain = false; chart = c; rest = 10 ∷ raster })
   unfolding headerIn

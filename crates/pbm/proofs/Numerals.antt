@@ -1,18 +1,18 @@
 -- A number that was written in decimal is read back, and so is a size with a byte of white space before it. Assumes nothing.
 use Prim.Native.Nat.{ℕ, zero, suc, _+_, _-_, _*_, _/_, _%_, _^_, _≤_, _<_}
-use mathlib.Core.Bool.{Bool, true, false, and-false}
+use mathlib.Core.Bool.{_||_, Bool, true, false}
 use mathlib.Core.List.{List, [], _∷_, _++_}
 use mathlib.Core.Option.{some}
 use mathlib.Core.Path.{_≡_, refl, ap, _∙_}
 use native.Mathlib.Nat.{pow-suc}
 use native.Mathlib.Omega.{arith}
-use lib.Dec.{leb, ltb}
+use lib.Dec.{ltb}
 use lib.Seq.{append-snoc}
-use borrow.Author.Tests.{le-leb, lt-leb, lt-ltb, ltb-true, leb-true, ne-eqb}
+use borrow.Author.Tests.{le-leb, lt-ltb, ltb-true}
 use Rattle.laws.specs.If.{if_then_else_}
-use Rattle.laws.specs.Joined.{both-true}
 use Rattle.texts.specs.Text.{glyphOf, decimalDigits, naturalText}
-use Rattle.pbm.specs.Header.{white, hash, digit, begins, behind, digitsFrom, numberIn, sizeIn}
+use Rattle.pbm.specs.Header.{white, hash, digit, begins, digitsFrom, numberIn, sizeIn}
+use Rattle.pbm.proofs.HeaderFront.{digits-go-on, digits-stop, stops-at-a-digit, size-is}
 
 -- ---- digits
 
@@ -22,10 +22,9 @@ digit-glyph d h = rw (lt-ltb d 10 h, le-leb 48 (48 + d) (omega arith), le-leb (4
 
 -- one digit more
 digit-read : (n d : ℕ) (rest : List ℕ) → d < 10 → digitsFrom n (glyphOf d ∷ rest) ≡ digitsFrom (n * 10 + d) rest
-unfolding digitsFrom
 digit-read n d rest h =
     let e : 48 + d - 48 ≡ d = omega arith in
-    rw (digit-glyph d h, digitsFrom, lt-ltb d 10 h, e)
+    digits-go-on n (glyphOf d) rest (digit-glyph d h) ∙ rw (lt-ltb d 10 h, e)
 
 -- all digits of a number
 digits-read : (most n : ℕ) (rest : List ℕ) → n < 10 ^ most → digitsFrom 0 (decimalDigits most n ++ rest) ≡ digitsFrom n rest
@@ -56,48 +55,16 @@ digit-first (suc most) n rest h =
     by-test true e higher = digit-glyph n (ltb-true n 10 e)
     by-test false e higher = rw append-snoc higher
 
--- ---- a size
+-- ---- a size: one byte that parts it from what stands before, a number, and behind it no digit
 
--- no digit follows
-digits-end : (n : ℕ) (rest : List ℕ) → begins digit rest ≡ false → digitsFrom n rest ≡ record { value = n; rest = rest }
-unfolding digitsFrom
-digits-end n [] h = refl
-digits-end n (b ∷ rest) h = rw (h, digitsFrom)
-
--- what begins with a digit is no white space, and no comment
-module _ (b : ℕ) (is : digit b ≡ true) where
-  from-48 : 48 ≤ b
-  unfolding digit
-  from-48 = leb-true 48 b (both-true (leb 48 b) (leb b 57) is .0)
-
-  digit-no-white : white b ≡ false
-  unfolding white
-  digit-no-white =
-      let h = from-48 in
-      rw (ne-eqb b 32 (λ e. omega arith), lt-leb b 13 (omega arith), and-false)
-
-  digit-no-hash : hash b ≡ false
-  unfolding hash
-  digit-no-hash = let h = from-48 in ne-eqb b 35 (λ e. omega arith)
-
-nothing-passed : (bs : List ℕ) → begins digit bs ≡ true → behind false bs ≡ bs
-unfolding behind
-nothing-passed [] h = refl
-nothing-passed (b ∷ bs) h = rw (digit-no-white b h, digit-no-hash b h, behind)
-
-one-passed : (b : ℕ) (bs : List ℕ) → white b ≡ true → hash b ≡ false → begins digit bs ≡ true → behind false (b ∷ bs) ≡ bs
-unfolding behind
-one-passed b bs w h first = rw (w, h, behind) (nothing-passed bs first)
-
--- one byte of white space, a number, and behind it something else
 module _ (n : ℕ) (rest : List ℕ) (few : n ≤ 512) (other : begins digit rest ≡ false) where
   begins-so : begins digit (naturalText n ++ rest) ≡ true
   begins-so = digit-first 19 n rest (omega arith)
 
   number-read : numberIn (naturalText n ++ rest) ≡ some (record { value = n; rest = rest })
   unfolding numberIn
-  number-read = rw (begins-so, numberIn, digits-read 20 n rest (omega arith), digits-end n rest other)
+  number-read = rw (begins-so, numberIn, digits-read 20 n rest (omega arith), digits-stop n rest other)
 
-  pub size-read : (b : ℕ) → white b ≡ true → hash b ≡ false → sizeIn (b ∷ (naturalText n ++ rest)) ≡ some (record { value = n; rest = rest })
-  unfolding sizeIn
-  size-read b w h = rw (w, sizeIn, one-passed b (naturalText n ++ rest) w h begins-so, number-read)
+  pub size-read : (b : ℕ) → (white b || hash b) ≡ true → hash b ≡ false → sizeIn (b ∷ (naturalText n ++ rest)) ≡ some (record { value = n; rest = rest })
+  size-read b parts line =
+      size-is b (naturalText n ++ rest) parts ∙ rw (line, stops-at-a-digit (naturalText n ++ rest) begins-so, number-read)

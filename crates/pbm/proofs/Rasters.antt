@@ -1,6 +1,6 @@
 -- A raster that was written is read back, raw or plain, whatever follows it: the image within the chart is the one that was written. Assumes nothing.
 use Prim.Native.Nat.{ℕ, suc, _+_, _*_, _/_, _%_, _≤_, _<_}
-use mathlib.Core.Bool.{Bool, true, false}
+use mathlib.Core.Bool.{Bool, _||_, true, false}
 use mathlib.Core.List.{List, [], _∷_, _++_, map}
 use mathlib.Core.Option.{some}
 use mathlib.Core.Path.{_≡_, refl, ap, ap₂, _∙_}
@@ -8,14 +8,20 @@ use native.Mathlib.Omega.{arith}
 use lib.Dec.{eqb}
 use lib.ListN.{length, getD, drop, length-append, List·getD-map}
 use lib.Seq.{drop-at}
-use borrow.Author.Tests.{le-ltb}
 use Rattle.bitmap.specs.Pixels.{rowBytes, cell, one}
 use Rattle.bitmap.specs.declared.Chart.{Chart}
-use Rattle.pbm.specs.Header.{white}
-use Rattle.pbm.specs.Raster.{Image, rawIn, pixel, signOf, digitsIn, rowsOf, plainIn, imageIn}
+use Rattle.pbm.specs.Header.{white, rasterIn}
+use Rattle.pbm.specs.Raster.{Image, onto, digitsIn, rowsOf, plainIn, imageIn}
 use Rattle.pbm.specs.Bytes.{listed, chartBytes}
 use Rattle.pbm.proofs.RowByRow.{place-column, place-row, place-below}
 use Rattle.pbm.proofs.Bytes.{length-chartBytes, length-listed, listed-at}
+use Rattle.pbm.proofs.Digits.{zero-or-one, pixel-first}
+use Rattle.pbm.proofs.Images.{raw-whole, image-of-raster}
+
+-- the raster begins behind one newline
+line-passed : (raster : List ℕ) → rasterIn (10 ∷ raster) ≡ some raster
+unfolding rasterIn white
+line-passed raster = refl
 
 -- ---- raw: a chart's bytes
 
@@ -25,10 +31,10 @@ module _ (c : Chart) (set : ℕ → ℕ → Bool) (more : List ℕ) where
 
   pub raw-image : imageIn (record { plain = false; chart = c; rest = 10 ∷ (chartBytes c set ++ more) })
       ≡ some (record { set = cell c (chartBytes c set ++ more); rest = more })
-  unfolding imageIn white
   raw-image =
-      let behind : drop (rowBytes (c .width) * c .height) (chartBytes c set ++ more) ≡ more = drop-at (chartBytes c set) more _ (length-chartBytes c set) in
-      rw (le-ltb _ _ enough, rawIn, behind)
+      let raster = chartBytes c set ++ more in
+      let behind : drop (rowBytes (c .width) * c .height) raster ≡ more = drop-at (chartBytes c set) more _ (length-chartBytes c set) in
+      image-of-raster _ raster (line-passed raster) ∙ raw-whole c raster enough ∙ rw behind
 
 -- ---- plain: a digit for each pixel
 
@@ -39,10 +45,9 @@ digit-back : (t : Bool) → is-one (48 + one t) ≡ t
 digit-back true = refl
 digit-back false = refl
 
-digit-sign : (t : Bool) → signOf (48 + one t) ≡ pixel (is-one (48 + one t))
-unfolding signOf white
-digit-sign true = refl
-digit-sign false = refl
+zero-or-one-digit : (t : Bool) → (eqb (48 + one t) 48 || eqb (48 + one t) 49) ≡ true
+zero-or-one-digit true = refl
+zero-or-one-digit false = refl
 
 -- digits without anything between them
 digits-back : (digits more : List ℕ) (f : ℕ → Bool) → ((i : ℕ) → i < length digits → getD digits i 0 ≡ 48 + one (f i)) →
@@ -51,8 +56,8 @@ unfolding digitsIn
 digits-back [] more f all = refl
 digits-back (d ∷ digits) more f all =
     let first : d ≡ 48 + one (f 0) = all 0 (omega arith) in
-    let sign : signOf d ≡ pixel (is-one d) = rw first (digit-sign (f 0)) in
-    rw (sign, digitsIn, digits-back digits more (λ i. f (suc i)) (λ i h. all (suc i) (omega arith)))
+    let later = digits-back digits more (λ i. f (suc i)) (λ i h. all (suc i) (omega arith)) in
+    pixel-first (length digits) d (digits ++ more) (is-one d) (zero-or-one d (rw first (zero-or-one-digit (f 0)))) ∙ ap (onto (is-one d)) later
 
 -- row by row
 module _ (c : Chart) (set : ℕ → ℕ → Bool) where
@@ -73,10 +78,11 @@ module _ (c : Chart) (set : ℕ → ℕ → Bool) where
   digit-image more = rowsOf c (record { bits = map is-one digits; rest = more })
 
   pub plain-image : (more : List ℕ) → imageIn (record { plain = true; chart = c; rest = 10 ∷ (digits ++ more) }) ≡ some (digit-image more)
-  unfolding imageIn white
+  unfolding plainIn
   plain-image more =
+      let raster = digits ++ more in
       let read = digits-back digits more there (λ i h. digit-at i (omega (arith, many))) in
-      rw (rw many at read, plainIn)
+      image-of-raster _ raster (line-passed raster) ∙ rw (rw many at read, plainIn)
 
   pub digit-image-same : (more : List ℕ) (x y : ℕ) → x < c .width → y < c .height → digit-image more .set x y ≡ set x y
   digit-image-same more x y column row =

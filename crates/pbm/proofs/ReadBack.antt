@@ -1,36 +1,28 @@
 -- A chart that was written as a picture, raw or plain, is read back, whatever follows the picture. Assumes nothing.
 use Prim.Native.Nat.{ℕ, _-_, _*_, _≤_, _<_}
-use mathlib.Core.Bool.{Bool, true, not}
+use mathlib.Core.Bool.{Bool, true}
 use mathlib.Core.List.{List, _∷_, _++_, append-assoc}
 use mathlib.Core.Option.{some}
-use mathlib.Core.Path.{_≡_, refl, ap, _∙_}
+use mathlib.Core.Path.{_≡_, refl, sym, ap, _∙_}
 use native.Mathlib.Omega.{arith}
 use lib.ListN.{length, length-append}
-use borrow.Author.Tests.{le-ltb}
 use Rattle.laws.specs.Lists.{over}
 use Rattle.bitmap.specs.Pixels.{rowBytes, side}
 use Rattle.bitmap.specs.declared.Chart.{Chart}
-use Rattle.bitmap.proofs.Sizes.{side-most}
 use Rattle.pbm.specs.Header.{Header, headerIn}
 use Rattle.pbm.specs.Raster.{Image, imageIn}
 use Rattle.pbm.specs.Bytes.{chartBytes}
-use Rattle.pbm.specs.Calls.{headText, laid, readBehind, readOf}
+use Rattle.pbm.specs.Calls.{headText, readOf}
 use Rattle.pbm.specs.declared.Picture.the-variants.{Read}
 use Rattle.pbm.proofs.Bytes.{cell-append, chartBytes-same}
 use Rattle.pbm.proofs.Heads.{sizesText, raw-read, plain-read}
 use Rattle.pbm.proofs.Rasters.{digits, raw-image, plain-image, digit-image-same}
-
--- a header, an image behind it, sizes in range, and room
-module _ (file buffer : List ℕ) (h : Header) (image : Image) where
-  read-is : headerIn file ≡ some h → side (h .chart .width) ≡ true → side (h .chart .height) ≡ true → imageIn h ≡ some image →
-      rowBytes (h .chart .width) * h .chart .height ≤ length buffer →
-      readOf file buffer ≡ record { answer = Read (h .chart) (length file - length (image .rest)); pixels = over (chartBytes (h .chart) (image .set)) buffer }
-  unfolding readOf readBehind laid
-  read-is head wide high whole room =
-      rw (head, readOf, wide, high, readBehind, whole, le-ltb (length buffer) (rowBytes (h .chart .width) * h .chart .height) room, laid)
+use Rattle.pbm.proofs.Images.{side-most}
+use Rattle.pbm.proofs.Outcomes.{room}
+use Rattle.pbm.proofs.Told.{read-is}
 
 module _ (c : Chart) (set : ℕ → ℕ → Bool) (buffer : List ℕ) (wide : side (c .width) ≡ true) (high : side (c .height) ≡ true)
-    (room : rowBytes (c .width) * c .height ≤ length buffer) (more : List ℕ) where
+    (enough : rowBytes (c .width) * c .height ≤ length buffer) (more : List ℕ) where
   -- only the pixels within the chart count
   by-image : (text : List ℕ) (h : Header) (image : Image) → headerIn (text ++ more) ≡ some h → h .chart ≡ c → imageIn h ≡ some image → image .rest ≡ more →
       ((x y : ℕ) → x < c .width → y < c .height → image .set x y ≡ set x y) →
@@ -38,24 +30,20 @@ module _ (c : Chart) (set : ℕ → ℕ → Bool) (buffer : List ℕ) (wide : si
   by-image text h image head chart whole behind same =
       let count : length (text ++ more) - length more ≡ length text = omega (arith, length-append text more) in
       let bytes : chartBytes c (image .set) ≡ chartBytes c set = chartBytes-same c (image .set) set same in
-      read-is (text ++ more) buffer h image head (rw chart wide) (rw chart high) whole (rw chart room) ∙ rw (chart, behind, count, bytes)
-
-  narrow : c .width ≤ 512
-  narrow = side-most (c .width) (side (c .width)) refl (ap not wide)
-
-  low : c .height ≤ 512
-  low = side-most (c .height) (side (c .height)) refl (ap not high)
+      read-is (text ++ more) h image buffer head (rw (chart, wide, high)) whole
+      ∙ sym (room (text ++ more) buffer (h .chart) image (rw chart enough))
+      ∙ rw (chart, behind, count, bytes)
 
   pub raw-back : readOf (headText c ++ chartBytes c set ++ more) buffer
       ≡ record { answer = Read c (length (headText c ++ chartBytes c set)); pixels = over (chartBytes c set) buffer }
   raw-back =
       let raster = chartBytes c set ++ more in
-      let head = ap headerIn (append-assoc (headText c) (chartBytes c set) more) ∙ raw-read c narrow low raster in
+      let head = ap headerIn (append-assoc (headText c) (chartBytes c set) more) ∙ raw-read c (side-most (c .width) wide) (side-most (c .height) high) raster in
       by-image (headText c ++ chartBytes c set) _ _ head refl (raw-image c set more) refl (λ x y column row. cell-append c set x y row more column)
 
   pub plain-back : readOf (80 ∷ 49 ∷ sizesText c ++ digits c set ++ more) buffer
       ≡ record { answer = Read c (length (80 ∷ 49 ∷ sizesText c ++ digits c set)); pixels = over (chartBytes c set) buffer }
   plain-back =
       let raster = digits c set ++ more in
-      let head = ap headerIn (append-assoc (80 ∷ 49 ∷ sizesText c) (digits c set) more) ∙ plain-read c narrow low raster in
+      let head = ap headerIn (append-assoc (80 ∷ 49 ∷ sizesText c) (digits c set) more) ∙ plain-read c (side-most (c .width) wide) (side-most (c .height) high) raster in
       by-image (80 ∷ 49 ∷ sizesText c ++ digits c set) _ _ head refl (plain-image c set more) refl (digit-image-same c set more)

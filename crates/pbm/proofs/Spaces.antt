@@ -1,6 +1,6 @@
 -- White space in a plain raster says nothing: without it the same digits are read. Assumes nothing.
 use Prim.Native.Nat.{ℕ, zero, suc, _*_, _≤_}
-use mathlib.Core.Bool.{Bool, true, false, not, _||_}
+use mathlib.Core.Bool.{Bool, true, false}
 use mathlib.Core.List.{List, [], _∷_, _++_}
 use mathlib.Core.Option.{Option, some, none}
 use mathlib.Core.Path.{_≡_, refl, sym, ap, _∙_}
@@ -10,6 +10,7 @@ use Rattle.pbm.specs.Raster.{Sign, blank, pixel, wrong, signOf, Digits, 
 use Rattle.pbm.specs.Calls.{readBehind, readOf}
 use Rattle.pbm.proofs.Heads.{sizesText, plain-read}
 use Rattle.pbm.proofs.Alike.{ReadAlike, missing-alike, behind-alike}
+use Rattle.pbm.proofs.Digits.{white-blank, blank-first, pixel-first, wrong-first}
 
 -- the bytes that are no white space
 unfoldable pub inked : List ℕ → List ℕ
@@ -24,10 +25,6 @@ onto-thin : (t : Bool) (o : Option Digits) → onto t (thin o) ≡ thin (onto t 
 onto-thin t none = refl
 onto-thin t (some d) = refl
 
-blank-passed : (n b : ℕ) (bs : List ℕ) → white b ≡ true → digitsIn (suc n) (b ∷ bs) ≡ digitsIn (suc n) bs
-unfolding digitsIn
-blank-passed n b bs w = let sign : signOf b ≡ blank = rw (w, signOf) in rw (sign, digitsIn)
-
 digits-inked : (n : ℕ) (raster : List ℕ) → digitsIn n (inked raster) ≡ thin (digitsIn n raster)
 unfolding digitsIn inked
 digits-inked zero raster = refl
@@ -36,13 +33,13 @@ digits-inked (suc n) (b ∷ bs) = by-white (white b) refl (digits-inked (suc n) 
   where
     by-sign : (s : Sign) → signOf b ≡ s → digitsIn (suc n) (inked bs) ≡ thin (digitsIn (suc n) bs) → digitsIn n (inked bs) ≡ thin (digitsIn n bs) →
         digitsIn (suc n) (b ∷ inked bs) ≡ thin (digitsIn (suc n) (b ∷ bs))
-    by-sign blank s later next = rw (s, digitsIn) later
-    by-sign (pixel t) s later next = rw (s, digitsIn, next) (onto-thin t (digitsIn n bs))
-    by-sign wrong s later next = rw (s, digitsIn)
+    by-sign blank s later next = rw (blank-first n b (inked bs) s, blank-first n b bs s) later
+    by-sign (pixel t) s later next = rw (pixel-first n b (inked bs) t s, pixel-first n b bs t s, next) (onto-thin t (digitsIn n bs))
+    by-sign wrong s later next = rw (wrong-first n b (inked bs) s, wrong-first n b bs s)
 
     by-white : (t : Bool) → white b ≡ t → digitsIn (suc n) (inked bs) ≡ thin (digitsIn (suc n) bs) → digitsIn n (inked bs) ≡ thin (digitsIn n bs) →
         digitsIn (suc n) (inked (b ∷ bs)) ≡ thin (digitsIn (suc n) (b ∷ bs))
-    by-white true w later next = rw (w, inked) (later ∙ ap thin (sym (blank-passed n b bs w)))
+    by-white true w later next = rw (w, inked) (later ∙ ap thin (sym (blank-first n b bs (white-blank b w))))
     by-white false w later next = rw (w, inked) (by-sign (signOf b) refl later next)
 
 -- behind the same sizes
