@@ -21,7 +21,7 @@ use Rattle.pbm.specs.declared.Picture.the-variants.{Read}
 use Rattle.pbm.proofs.Bytes.{cell-over, padding-over, padding-chart, chartBytes-again}
 use Rattle.pbm.proofs.ReadBack.{raw-back, plain-back}
 use Rattle.pbm.proofs.ReadInto.{read-into, good-parts, read-good}
-use Rattle.pbm.proofs.Alike.{ReadAlike, read-alike}
+use Rattle.pbm.proofs.Alike.{ReadAlike, both-there, read-alike}
 use Rattle.pbm.proofs.Behind.{nothing-behind-matters}
 use Rattle.pbm.proofs.CutShort.{Refuses, cut-short-is-refused}
 use Rattle.pbm.proofs.Spaces.{inked, spaces-alike}
@@ -121,7 +121,8 @@ written-padding-is-0 c pixels x y past within row =
 pub the-same-picture : (file file′ buffer : List ℕ) (h h′ : Header) (image image′ : Image) → headerIn file ≡ some h → headerIn file′ ≡ some h′ →
     imageIn h ≡ some image → imageIn h′ ≡ some image′ → h .chart ≡ h′ .chart →
     ((x y : ℕ) → x < h .chart .width → y < h .chart .height → image .set x y ≡ image′ .set x y) → ReadAlike (readOf file buffer) (readOf file′ buffer)
-the-same-picture file file′ buffer h h′ image image′ head head′ whole whole′ chart same = read-alike file file′ buffer h h′ image image′ whole whole′ chart same head head′
+the-same-picture file file′ buffer h h′ image image′ head head′ whole whole′ chart same =
+    read-alike file file′ buffer h h′ chart (rw (whole, whole′) (both-there image image′ same)) head head′
 
 module _ (c : Chart) (pixels buffer : List ℕ) (fine : badChart c pixels ≡ false) (room : rowBytes (c .width) * c .height ≤ length buffer) where
   pub reading-a-plain-picture : (more : List ℕ) → readOf (plainText c pixels ++ more) buffer

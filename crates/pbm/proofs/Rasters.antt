@@ -1,6 +1,6 @@
 -- A raster that was written is read back, raw or plain, whatever follows it: the image within the chart is the one that was written. Assumes nothing.
 use Prim.Native.Nat.{ℕ, suc, _+_, _*_, _/_, _%_, _≤_, _<_}
-use mathlib.Core.Bool.{Bool, _||_, true, false}
+use mathlib.Core.Bool.{Bool, true, false, _||_}
 use mathlib.Core.List.{List, [], _∷_, _++_, map}
 use mathlib.Core.Option.{some}
 use mathlib.Core.Path.{_≡_, refl, ap, ap₂, _∙_}
@@ -61,7 +61,7 @@ digits-back (d ∷ digits) more f all =
 
 -- row by row
 module _ (c : Chart) (set : ℕ → ℕ → Bool) where
-  abbrev pub there : ℕ → Bool
+  abbrev there : ℕ → Bool
   there i = set (i % c .width) (i / c .width)
 
   abbrev pub digits : List ℕ
@@ -74,7 +74,7 @@ module _ (c : Chart) (set : ℕ → ℕ → Bool) where
   many = length-listed (c .width * c .height) (λ i. 48 + one (there i))
 
   -- what the reader makes of them
-  abbrev pub digit-image : List ℕ → Image
+  abbrev digit-image : List ℕ → Image
   digit-image more = rowsOf c (record { bits = map is-one digits; rest = more })
 
   pub plain-image : (more : List ℕ) → imageIn (record { plain = true; chart = c; rest = 10 ∷ (digits ++ more) }) ≡ some (digit-image more)

@@ -7,9 +7,9 @@ use mathlib.Core.Path.{_≡_, refl, sym, ap, _∙_}
 use Rattle.bitmap.specs.declared.Chart.{Chart}
 use Rattle.pbm.specs.Header.{white, Header}
 use Rattle.pbm.specs.Raster.{Sign, blank, pixel, wrong, signOf, Digits, onto, digitsIn, rowsOf, plainIn, imageIn}
-use Rattle.pbm.specs.Calls.{readBehind, readOf}
+use Rattle.pbm.specs.Calls.{readOf}
 use Rattle.pbm.proofs.Heads.{sizesText, plain-read}
-use Rattle.pbm.proofs.Alike.{ReadAlike, missing-alike, behind-alike}
+use Rattle.pbm.proofs.Alike.{ReadAlike, ImagesAlike, both-missing, both-there, read-alike}
 use Rattle.pbm.proofs.Digits.{white-blank, blank-first, pixel-first, wrong-first}
 
 -- the bytes that are no white space
@@ -17,6 +17,7 @@ unfoldable pub inked : List ℕ → List ℕ
 inked [] = []
 inked (b ∷ bs) = elim (white b) [ true ↦ inked bs | false ↦ b ∷ inked bs ]
 
+-- digits, with what is left behind them
 abbrev thin : Option Digits → Option Digits
 thin none = none
 thin (some d) = some (record { bits = d .bits; rest = inked (d .rest) })
@@ -47,22 +48,13 @@ module _ (c : Chart) (wide : c .width ≤ 512) (high : c .height ≤ 512) (raste
   abbrev head : List ℕ → Header
   head raster = record { plain = true; chart = c; rest = 10 ∷ raster }
 
-  abbrev file : List ℕ → List ℕ
-  file raster = 80 ∷ 49 ∷ sizesText c ++ raster
-
-  by-digits : (o : Option Digits) → digitsIn (c .width * c .height) raster ≡ o →
-      ReadAlike (readBehind (file raster) (head raster) buffer) (readBehind (file (inked raster)) (head (inked raster)) buffer)
+  images : ImagesAlike c (imageIn (head raster)) (imageIn (head (inked raster)))
   unfolding imageIn white
-  by-digits none e =
-      let missing : imageIn (head raster) ≡ none = rw (e, plainIn) in
-      let missing′ : imageIn (head (inked raster)) ≡ none = rw (digits-inked (c .width * c .height) raster, e, plainIn) in
-      missing-alike (file raster) (file (inked raster)) buffer (head raster) (head (inked raster)) missing missing′ refl
-  by-digits (some d) e =
-      let d′ : Digits = record { bits = d .bits; rest = inked (d .rest) } in
-      let whole : imageIn (head raster) ≡ some (rowsOf c d) = rw (e, plainIn) in
-      let whole′ : imageIn (head (inked raster)) ≡ some (rowsOf c d′) = rw (digits-inked (c .width * c .height) raster, e, plainIn) in
-      behind-alike (file raster) (file (inked raster)) buffer (head raster) (head (inked raster)) (rowsOf c d) (rowsOf c d′) whole whole′ refl (λ x y column row. refl)
+  images = rw (digits-inked (c .width * c .height) raster, plainIn) (by-digits (digitsIn (c .width * c .height) raster))
+    where
+      by-digits : (o : Option Digits) → ImagesAlike c (elim o [ none ↦ none | some d ↦ some (rowsOf c d) ]) (elim (thin o) [ none ↦ none | some d ↦ some (rowsOf c d) ])
+      by-digits none = both-missing
+      by-digits (some d) = both-there _ _ (λ x y column row. refl)
 
   pub spaces-alike : ReadAlike (readOf (80 ∷ 49 ∷ sizesText c ++ raster) buffer) (readOf (80 ∷ 49 ∷ sizesText c ++ inked raster) buffer)
-  unfolding readOf
-  spaces-alike = rw (plain-read c wide high raster, readOf, plain-read c wide high (inked raster), readOf) (by-digits (digitsIn (c .width * c .height) raster) refl)
+  spaces-alike = read-alike _ _ buffer (head raster) (head (inked raster)) refl images (plain-read c wide high raster) (plain-read c wide high (inked raster))
