@@ -38,6 +38,7 @@ plainHead c = 80 ∷ 49 ∷ 10 ∷ naturalText (c .width) ++ (32 ∷ naturalText
 abbrev pub plainText : Chart → List ℕ → List ℕ
 plainText c pixels = plainHead c ++ listed (c .width * c .height) (λ i. 48 + one (cell c pixels (i % c .width) (i / c .width)))
 
+-- it is written as it was
 cleared-again : (c : Chart) (pixels buffer : List ℕ) → pictureText c (cleared c pixels buffer) ≡ pictureText c pixels
 unfolding pictureText
 cleared-again c pixels buffer = ap (λ (bytes : List ℕ). headText c ++ bytes) (chartBytes-again c (cell c pixels) buffer)
@@ -52,6 +53,7 @@ module _ (c : Chart) (pixels buffer : List ℕ) (fine : badChart c pixels ≡ fa
   unfolding pictureText
   reading-what-was-written more = let p = good-parts c pixels fine in raw-back c (cell c pixels) buffer (p .0) (p .1) room more
 
+  -- and where nothing follows
   alone : readOf (pictureText c pixels) buffer ≡ record { answer = Read c (length (pictureText c pixels)); pixels = cleared c pixels buffer }
   alone = ap (λ (file : List ℕ). readOf file buffer) (sym (append-nil (pictureText c pixels))) ∙ reading-what-was-written []
 
@@ -85,7 +87,7 @@ module _ (file buffer : List ℕ) (c : Chart) (n : ℕ) (read : readOf file buff
   pub what-was-read-is-good : badChart c (readOf file buffer .pixels) ≡ false
   what-was-read-is-good = read-good c buffer (readOf file buffer .pixels) (read-into file buffer c n read)
 
-  -- "Reader and writer set padding to 0": from the last column of a row to the end of its last byte
+  -- "Reader and writer set padding to 0": past the last column of a row, to the end of its last byte
   pub padding-is-0 : (x y : ℕ) → c .width ≤ x → x < rowBytes (c .width) * 8 → y < c .height → cell c (readOf file buffer .pixels) x y ≡ false
   padding-is-0 x y past within row =
       let r = read-into file buffer c n read in
@@ -109,6 +111,7 @@ module _ (file buffer : List ℕ) (c : Chart) (n : ℕ) (read : readOf file buff
       ∙ ap (λ (bytes : List ℕ). over bytes buffer) same
       ∙ sym (r .lies)
 
+-- the same in what was written, behind the header
 pub written-padding-is-0 : (c : Chart) (pixels : List ℕ) (x y : ℕ) → c .width ≤ x → x < rowBytes (c .width) * 8 → y < c .height →
     cell c (drop (length (headText c)) (pictureText c pixels)) x y ≡ false
 unfolding pictureText
@@ -125,10 +128,12 @@ the-same-picture file file′ buffer h h′ image image′ head head′ whole wh
     read-alike file file′ buffer h h′ chart (rw (whole, whole′) (both-there image image′ same)) head head′
 
 module _ (c : Chart) (pixels buffer : List ℕ) (fine : badChart c pixels ≡ false) (room : rowBytes (c .width) * c .height ≤ length buffer) where
+  -- the plain picture of a chart, whatever follows it
   pub reading-a-plain-picture : (more : List ℕ) → readOf (plainText c pixels ++ more) buffer
       ≡ record { answer = Read c (length (plainText c pixels)); pixels = cleared c pixels buffer }
   reading-a-plain-picture more = let p = good-parts c pixels fine in plain-back c (cell c pixels) buffer (p .0) (p .1) room more
 
+  -- and the raw one
   pub plain-and-raw-alike : (more more′ : List ℕ) → ReadAlike (readOf (plainText c pixels ++ more) buffer) (readOf (pictureText c pixels ++ more′) buffer)
   plain-and-raw-alike more more′ =
       rw (reading-a-plain-picture more, reading-what-was-written c pixels buffer fine room more′) (record { answers = refl; buffers = refl })
