@@ -1,7 +1,7 @@
 -- A chart's byte as it is copied: the pixels of its row that it has are its first bits, and behind the last of them nothing is set. And
 -- where in its row the next byte lies. Assumes nothing.
-use Prim.Native.Nat.{ℕ, zero, suc, _+_, _-_, _*_, _/_, _%_, _^_, _≤_, _<_}
-use mathlib.Core.Bool.{Bool, true, false, not, _&&_}
+use Prim.Native.Nat.{ℕ, suc, _+_, _-_, _*_, _/_, _%_, _^_, _≤_, _<_}
+use mathlib.Core.Bool.{true, not, _&&_}
 use mathlib.Core.List.{List}
 use mathlib.Core.Path.{_≡_, refl, sym, ap, _∙_}
 use native.Mathlib.Nat.{mul-one, div-one, div-add-mod', mod-lt, mod-self, mod-eq-of-lt, suc-mod}
@@ -15,12 +15,15 @@ use borrow.Author.Tests.{lt-ltb, le-ltb}
 use Rattle.bitmap.specs.Pixels.{side, rowBytes, bitOf, cell}
 use Rattle.bitmap.specs.declared.Chart.{Chart}
 use Rattle.bitmap.proofs.Rows.{cell-byte}
-use Rattle.bitmap.proofs.Sizes.{side-within}
+use Rattle.bitmap.proofs.Sizes.{side-within, bytes-fit}
 use Rattle.pbm.specs.Bytes.{packed, byteAt}
 use Rattle.pbm.proofs.Bytes.{packed-padded, packed-bits, byteAt-is}
 
 pub wide-within : (n : ℕ) → side n ≡ true → (1 ≤ n) × (n ≤ 512)
 wide-within n h = side-within n (side n) refl (ap not h)
+
+pub all-fit : (w h b : ℕ) → side w ≡ true → side h ≡ true → b ≡ rowBytes w → Fits w64 (b * h)
+all-fit w h b p q e = bytes-fit w h b e (wide-within w p .1) (wide-within h q .1)
 
 -- ---- byte i, of which the first n pixels are its row's
 

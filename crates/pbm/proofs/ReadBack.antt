@@ -15,7 +15,7 @@ use Rattle.pbm.specs.Bytes.{chartBytes}
 use Rattle.pbm.specs.Calls.{headText, readOf}
 use Rattle.pbm.specs.declared.Picture.the-variants.{Read}
 use Rattle.pbm.proofs.Bytes.{cell-append, chartBytes-same}
-use Rattle.pbm.proofs.Heads.{sizesText, raw-read, plain-read}
+use Rattle.pbm.proofs.HeadRead.{sizesText, raw-read, plain-read}
 use Rattle.pbm.proofs.Rasters.{digits, raw-image, plain-image, digit-image-same}
 use Rattle.pbm.proofs.Images.{side-most}
 use Rattle.pbm.proofs.Outcomes.{room}

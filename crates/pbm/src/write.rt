@@ -1,10 +1,13 @@
 // A chart written as a raw picture.
-ghost use Prim.Native.Nat.{_≤_};
+ghost use Prim.Native.Nat.{_+_, _*_, _≤_};
 ghost use mathlib.Core.Bool.{true};
+ghost use mathlib.Core.List.{[], _∷_, _++_};
 ghost use mathlib.Core.Path.{_≡_};
 ghost use lib.ListN.{length};
 ghost use Rattle.laws.specs.Lists.{over};
-ghost use Rattle.bitmap.specs.Pixels.{side};
+ghost use Rattle.bitmap.specs.Pixels.{rowBytes, side};
+ghost use Rattle.texts.specs.Put.{put};
+ghost use Rattle.texts.specs.Text.{naturalText};
 ghost use Rattle.pbm.specs.Calls.{headText, writtenOf};
 use crate::raw::copy_rows;
 use bitmap::Chart;
@@ -19,25 +22,41 @@ pub fn write_pbm(chart: Chart, pixels: &[u8], out: &mut [u8]) -> Answer
     if chart::bad_chart(chart, pixels) {
         return Answer::Refused(Refusal::BadSize);
     }
-    let mut head = [0u8; 11];
-    let n = put_head(chart, &mut head);
-    let bytes = n + chart::row_bytes(chart.width) * chart.height;
+    let bytes = file_bytes(chart);
     if out.len() < bytes {
         return Answer::Refused(Refusal::NoRoom);
     }
-    texts::put_bytes(&head[0..n], out, 0);
-    copy_rows(chart, pixels, out, n);
+    let end = put_head(chart, out);
+    copy_rows(chart, pixels, out, end);
     Answer::Done(bytes)
 }
 
-// Puts the header, which 11 bytes hold, and answers how long it is.
+// How many bytes a picture takes. Its header is put into scratch memory, which 11 bytes are enough for.
+fn file_bytes(chart: Chart) -> usize
+    requires { ⌜ (side (chart .width) ≡ true) × (side (chart .height) ≡ true) ⌝ }
+    ensures { λ r. ⌜ r ≡ length (headText chart) + rowBytes (chart .width) * chart .height ⌝ }
+{
+    let mut scratch = [0u8; 11];
+    put_head(chart, &mut scratch) + chart::row_bytes(chart.width) * chart.height
+}
+
+// Puts the header, and answers how long it is.
 fn put_head(chart: Chart, out: &mut [u8]) -> usize
-    requires { ⌜ (side (chart .width) ≡ true) × (side (chart .height) ≡ true) × (11 ≤ length (now out)) ⌝ }
+    requires { ⌜ length (headText chart) ≤ length (now out) ⌝ }
     ensures { λ r. ⌜ (r ≡ length (headText chart)) × (now (out .exit) ≡ over (headText chart) (now (out .entry))) ⌝ }
 {
-    let mut end = texts::put_bytes(b"P4\n", out, 0);
-    end = texts::put_natural(chart.width as u64, out, end);
-    end = texts::put_byte(b' ', out, end);
-    end = texts::put_natural(chart.height as u64, out, end);
-    texts::put_byte(b'\n', out, end)
+    out[0] = b'P';
+    out[1] = b'4';
+    out[2] = b'\n';
+    let end = put_size(chart.width, b' ', out, 3);
+    put_size(chart.height, b'\n', out, end)
+}
+
+// Puts a size and the byte behind it.
+fn put_size(size: usize, behind: u8, out: &mut [u8], at: usize) -> usize
+    requires { ⌜ at + length (naturalText size ++ (behind ∷ [])) ≤ length (now out) ⌝ }
+    ensures { λ r. ⌜ record { next = r; out = now (out .exit) } ≡ put (naturalText size ++ (behind ∷ [])) (now (out .entry)) at ⌝ }
+{
+    let end = texts::put_natural(size as u64, out, at);
+    texts::put_byte(behind, out, end)
 }

@@ -14,10 +14,10 @@ use lib.Seq.{paste, paste-zero, paste-suc, take-all}
 use borrow.Author.Needs.{needs}
 use Rattle.bitmap.specs.Pixels.{side, rowBytes, cell}
 use Rattle.bitmap.specs.declared.Chart.{Chart}
-use Rattle.bitmap.proofs.Sizes.{bytes-fit, bytes-of-rows}
+use Rattle.bitmap.proofs.Sizes.{bytes-of-rows}
 use Rattle.pbm.specs.Bytes.{byteAt, chartBytes}
 use Rattle.pbm.proofs.Bytes.{length-chartBytes, chartBytes-at}
-use Rattle.pbm.proofs.Copied.{wide-within, byte-whole, byte-last, next-column, next-row, padding-few, column-fits}
+use Rattle.pbm.proofs.Copied.{wide-within, all-fit, byte-whole, byte-last, next-column, next-row, padding-few, column-fits}
 use Rattle.pbm.proofs.raw.copy_rows.Statement.{statement}
 use Rattle.pbm.proofs.raw.copy_rows.Tie as tie
 
@@ -38,9 +38,6 @@ Inv-loop chart pixels out₀ at bytes x₀ i₀ out x i = Copying chart pixels o
 
 abbrev μ-loop : tie.MeasureT-loop
 μ-loop chart pixels out₀ at bytes x₀ i₀ out x i = bytes - i
-
-all-fit : (w h b : ℕ) → side w ≡ true → side h ≡ true → b ≡ rowBytes w → Fits w64 (b * h)
-all-fit w h b p q e = bytes-fit w h b e (wide-within w p .1) (wide-within h q .1)
 
 begun : (c : Chart) (pixels old : List ℕ) (at b : ℕ) → b ≡ rowBytes (c .width) → Copying c pixels old at (b * c .height) old 0 0
 begun c pixels old at b e = record {

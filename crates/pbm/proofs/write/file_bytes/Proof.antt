@@ -1,0 +1,41 @@
+-- `pbm::write::file_bytes` meets its contract. Assumes nothing.
+use Prim.Native.Nat.{ℕ, _+_, _*_, _≤_}
+use mathlib.Core.Bool.{true}
+use mathlib.Core.Path.{_≡_}
+use native.Mathlib.Nat.{mul-le-mul}
+use native.Mathlib.Omega.{arith}
+use mir.Syntax.{w64}
+use mir.Val.{Fits}
+use lib.ListN.{length}
+use borrow.Author.Needs.{needs}
+use Rattle.bitmap.specs.Pixels.{side, rowBytes}
+use Rattle.bitmap.specs.declared.Chart.{Chart}
+use Rattle.pbm.specs.Calls.{headText}
+use Rattle.pbm.proofs.Copied.{wide-within, all-fit}
+use Rattle.pbm.proofs.HeadText.{head-short}
+use Rattle.pbm.proofs.write.file_bytes.Statement.{statement}
+use Rattle.pbm.proofs.write.file_bytes.Tie as tie
+
+module _ (c : Chart) (n b : ℕ) (head : n ≡ length (headText c)) (row : b ≡ rowBytes (c .width)) where
+  sum-fits : side (c .width) ≡ true → side (c .height) ≡ true → Fits w64 (n + b * c .height)
+  unfolding rowBytes
+  sum-fits w h =
+      let few : b ≤ 64 = omega (arith, wide-within (c .width) w) in
+      let l : b * c .height ≤ 64 * 512 = mul-le-mul few (wide-within (c .height) h .1) in
+      record { fits = omega (arith, head-short c w h) }
+
+  sum : n + b * c .height ≡ length (headText c) + rowBytes (c .width) * c .height
+  sum = rw (head, row)
+
+ruleset laws = (head-short, all-fit, sum-fits, sum, needs)
+
+pub file-bytes-spec : {M : Type 1} → statement M
+file-bytes-spec =
+    tie.close
+    (tie.spec
+    (λ c. search needs)  -- slice-aggregate-put-head
+    (λ c κs. search laws)  -- put-head-requires
+    (λ c κs. search needs)  -- row-bytes-requires
+    (λ c. search laws)  -- mul-result
+    (λ c. search laws)  -- add-result
+    (λ c. search laws))  -- returns
