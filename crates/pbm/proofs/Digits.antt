@@ -10,7 +10,7 @@ use native.Mathlib.Numerals.{add-one}
 use native.Mathlib.Omega.{arith}
 use lib.Dec.{eqb}
 use lib.ListN.{length, getD, take, drop, drop-of-length-le}
-use lib.Seq.{drop-cons, drop-drop, getD-drop}
+use lib.Seq.{drop-cons, drop-drop, getD-drop, getD-take}
 use borrow.Author.Tests.{eqb-true}
 use Rattle.laws.specs.Joined.{both-false}
 use Rattle.bitmap.specs.Pixels.{one}
@@ -192,3 +192,26 @@ front-whole n m raster h = front n m raster h .0
 
 pub front-bits : (n m : ℕ) (raster : List ℕ) → whole (digitsIn (n + m) raster) ≡ true → bitsOf (digitsIn n raster) ≡ take n (bitsOf (digitsIn (n + m) raster))
 front-bits n m raster h = front n m raster h .1
+
+-- ---- n digits more, behind the first k of all: they are there, they are those at k and behind, and then come those behind the first k + n
+
+module _ (all k n : ℕ) (d : Option Digits) (rest : List ℕ) (left : digitsIn (all - k) rest ≡ skip k d) (more : k + n ≤ all) where
+  left-is : digitsIn (n + (all - (k + n))) rest ≡ skip k d
+  left-is = let e : n + (all - (k + n)) ≡ all - k = omega arith in rw e left
+
+  pub more-left : (rest′ : List ℕ) → behindDigits (digitsIn n rest) ≡ some rest′ → digitsIn (all - (k + n)) rest′ ≡ skip (k + n) d
+  more-left rest′ h = digits-behind n (all - (k + n)) rest rest′ h ∙ ap (skip n) left-is ∙ skip-skip n k d
+
+  module _ (there : whole d ≡ true) where
+    left-whole : whole (digitsIn (n + (all - (k + n))) rest) ≡ true
+    left-whole = ap whole left-is ∙ whole-skip k d ∙ there
+
+    pub more-whole : whole (digitsIn n rest) ≡ true
+    more-whole = front-whole n (all - (k + n)) rest left-whole
+
+    pub more-bits : (j : ℕ) → j < n → getD (bitsOf (digitsIn n rest)) j false ≡ getD (bitsOf d) (k + j) false
+    more-bits j h =
+        ap (λ (l : List Bool). getD l j false) (front-bits n (all - (k + n)) rest left-whole)
+        ∙ getD-take n (bitsOf (digitsIn (n + (all - (k + n))) rest)) j false h
+        ∙ ap (λ (x : Option Digits). getD (bitsOf x) j false) left-is
+        ∙ bits-skip k j d

@@ -1,5 +1,5 @@
 // The digits of a plain raster: judged first, then put into a chart.
-ghost use Prim.Native.Nat.{_+_, _-_, _*_, _^_, _≤_};
+ghost use Prim.Native.Nat.{_+_, _-_, _*_, _^_, _≤_, min};
 ghost use mathlib.Core.Bool.{true, false, _||_};
 ghost use mathlib.Core.Option.{some};
 ghost use mathlib.Core.Path.{_≡_};
@@ -43,31 +43,36 @@ pub(crate) fn digits_end(file: &[u8], from: usize, n: usize) -> Place
     Place::At(i)
 }
 
-// Puts the pixels of all rows into a chart's bytes; they are all there.
+// Puts the pixels of all rows into a chart's bytes; they are all there. `x` is the first column of the byte
+// at hand.
 pub(crate) fn pack_rows(file: &[u8], from: usize, chart: Chart, pixels: &mut [u8])
     requires { ⌜ (side (chart .width) ≡ true) × (side (chart .height) ≡ true) × (rowBytes (chart .width) * chart .height ≤ length (now pixels))
         × (whole (digitsIn (chart .width * chart .height) (drop from (now file))) ≡ true) ⌝ }
     ensures { λ _. ⌜ now (pixels .exit) ≡ over (chartBytes chart
         (λ x y. getD (bitsOf (digitsIn (chart .width * chart .height) (drop from (now (file .entry))))) (y * chart .width + x) false)) (now (pixels .entry)) ⌝ }
 {
-    let row = chart::row_bytes(chart.width);
-    let last = chart.width - (row - 1) * 8;
-    let bytes = row * chart.height;
+    let bytes = chart::row_bytes(chart.width) * chart.height;
     let mut at = from;
-    let mut column = 0;
+    let mut x = 0;
     let mut i = 0;
     while i < bytes {
-        column += 1;
-        let mut n = 8;
-        if column == row {
-            n = last;
-            column = 0;
-        }
-        let gathered = gather(file, at, n);
+        let width = chart.width;
+        let gathered = gather(file, at, in_byte(width - x));
         pixels[i] = gathered.byte;
         at = gathered.end;
         i += 1;
+        x += 8;
+        if width <= x {
+            x = 0;
+        }
     }
+}
+
+// How many of the pixels that are left of a row one byte holds.
+fn in_byte(left: usize) -> usize
+    ensures { λ r. ⌜ r ≡ min left 8 ⌝ }
+{
+    if 8 < left { 8 } else { left }
 }
 
 // Gathers `n` digits, which are there and at most eight, into the high bits of a byte.

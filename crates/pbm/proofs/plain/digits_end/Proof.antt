@@ -12,7 +12,6 @@ use borrow.Author.Tests.{not-true, not-false}
 use Rattle.pbm.specs.Header.{white}
 use Rattle.pbm.specs.Raster.{digitsIn}
 use Rattle.pbm.specs.inside.Places.{placeOf, behindDigits}
-use Rattle.pbm.specs.declared.header.Place.{Place}
 use Rattle.pbm.specs.declared.header.Place.the-variants.{At, Nowhere}
 use Rattle.pbm.proofs.Digits.{white-blank, zero-or-one, neither, none-left, blank-at, pixel-at, wrong-at, behind-onto}
 use Rattle.pbm.proofs.plain.digits_end.Statement.{statement}
