@@ -96,12 +96,22 @@ enough m n k e h = omega arith
 
 ruleset laws = (good-width, good-height, inside, has, bad, nothing, broken, full, done, needs)
 
+-- apart, so that an edit which judges in another order is refused here
+returns : tie.Need-returns
+returns c = search laws
+
+returns-3 : tie.Need-returns-3
+returns-3 c = search laws
+
+returns-5 : tie.Need-returns-5
+returns-5 c = search laws
+
 pub read-behind-spec : {M : Type 1} → statement M
 read-behind-spec =
     tie.close
     (tie.spec
     (λ c κs. search laws)  -- bad-sides-requires
-    (λ c. search laws)  -- returns
+    returns
     (λ c κs. search laws)  -- raster-requires
     (λ c. search laws)  -- enum-known-from
     (λ c. search laws)  -- enum-told
@@ -109,9 +119,9 @@ read-behind-spec =
     (λ c κs. search laws)  -- image-end-requires
     (λ c. search laws)  -- enum-known-end
     (λ c. search laws)  -- enum-told-2
-    (λ c. search laws)  -- returns-3
+    returns-3
     (λ c κs. search laws)  -- all-bytes-requires
     (λ c. search laws)  -- returns-4
     (λ c κs. (search good-width, search good-height, search enough, search inside, search has))  -- lay-requires
     (λ c. search laws)  -- same-length
-    (λ c. search laws))  -- returns-5
+    returns-5)
