@@ -2,6 +2,7 @@
 use Prim.Native.Nat.{ℕ, _*_}
 use mathlib.Core.Bool.{Bool, true, false, not, _&&_}
 use mathlib.Core.List.{List, [], _++_}
+use lib.Dec.{ltb}
 use lib.IntN.{ℤ}
 use lib.ListN.{length, take, replicate}
 use Rattle.laws.specs.If.{if_then_else_}
@@ -96,3 +97,8 @@ stepOf file more output =
     record { turn = Read; output = output }
     else
     record { turn = Write (length (surveyText file)); output = over (surveyText file) output }
+
+-- Whether more may come once `end` bytes are held, of which the last read brought n: until it brought none, at the end of the input, or the
+-- buffer of `size` bytes is full.
+abbrev pub mayCome : ℕ → ℕ → ℕ → Bool
+mayCome n end size = ltb 0 n && ltb end size

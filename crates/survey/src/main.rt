@@ -7,6 +7,9 @@ mod step;
 
 ghost use Prim.Native.Nat.{_+_, _≤_};
 ghost use lib.ListN.{length};
+ghost use mathlib.Core.Path.{_≡_};
+ghost use Rattle.survey.specs.Survey.{mayCome};
+ghost use Rattle.survey.specs.declared.Got.the-variants.{Held};
 ghost use Rattle.survey.specs.inside.Reading.{Nearer};
 use libc::STDERR_FILENO;
 use libc::STDIN_FILENO;
@@ -79,7 +82,7 @@ fn read(input: &mut [u8], held: usize) -> Got
 // ended. More may come until it has, or its buffer is full.
 fn fed(held: usize, n: usize, size: usize) -> Got
     requires { ⌜ held + n ≤ size ⌝ }
-    ensures { λ r. ⌜ Nearer r held size ⌝ }
+    ensures { λ r. ⌜ (r ≡ Held (held + n) (mayCome n (held + n) size)) × Nearer r held size ⌝ }
 {
     Got::Held {
         bytes: held + n,

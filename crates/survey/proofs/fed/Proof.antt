@@ -22,4 +22,4 @@ fed-spec =
     (tie.spec
     (λ c. search needs)  -- add-t4
     (λ c. search needs)  -- add-t6
-    (λ c. (search needs, search nearer)))  -- returns
+    (λ c. (search needs, (search needs, search nearer))))  -- returns
