@@ -1,6 +1,6 @@
-//! Document 01's worked examples ("Both sides of each edge"), asked of the oracle.
+//! Document 01's worked examples ("Both sides of each edge") and some of document 02, asked of the oracle.
 
-use crate::Subject;
+use crate::{pbm, survey, Subject};
 use visioncortex::open_util::{find_intersection, find_mid_point, norm_f64, norm_i32, signed_area};
 use visioncortex::{
     evaluate_penalty, PathF64, PathI32, PathSimplify, PointF64, PointI32, SubdivideSmooth,
@@ -172,4 +172,52 @@ fn tempting_but_wrong() {
     let (a, b, c) = (PointI32::new(0, 0), PointI32::new(1, 2), PointI32::new(15, 20));
     assert_eq!(signed_area(a, b, c).pow(2), 4 * 25);
     assert!(evaluate_penalty(a, b, c) < 1.0);
+}
+
+/// `read_pbm` of a file.
+fn picture(file: &[u8], room: usize) -> String {
+    let digits: String = file.iter().map(|byte| format!("{byte:02x}")).collect();
+    format!("read_pbm {digits} {room}")
+}
+
+#[test]
+fn pictures_are_read() {
+    // Rubbish in the padding, and a byte behind the image.
+    says("pbm", &picture(b"P4 9 1\n\x81\xff\x07", 3), "0 9 1 9 8180ee");
+    says("pbm", &picture(b"P1 2 2\n01 10", 2), "0 2 2 12 4080");
+    says("pbm", &picture(b"P4#\n1 1#7\n\xff", 1), "0 1 1 11 80");
+    says("pbm", &picture(b"P1 1 1 1", 0), "10 0 0 0 -");
+}
+
+#[test]
+fn pictures_are_refused() {
+    says("pbm", &picture(b"P4 0 1x", 1), "1 0 0 0 ee");
+    says("pbm", &picture(b"P4 9", 1), "12 0 0 0 ee");
+    says("pbm", &picture(b"P41 1 \xff", 1), "12 0 0 0 ee");
+    says("pbm", &picture(b"P1 1 1 2", 0), "12 0 0 0 -");
+}
+
+#[test]
+fn pictures_are_written() {
+    says("pbm", "write_pbm 1 1 ff 9", "0 8 50340a3120310a80ee");
+    says("pbm", "write_pbm 1 1 ff 7", "10 0 eeeeeeeeeeeeee");
+    says("pbm", "write_pbm 9 1 ff 0", "1 0 -");
+}
+
+#[test]
+fn pictures_are_surveyed() {
+    let pixel = "810000050000000000010000000100010000000100000000\n\
+                 820000020000000000000000\n840000027ff00000000000007ff0000000000000\n";
+    assert_eq!(survey::text(b"P4 1 1 \x80"), pixel);
+    assert_eq!(survey::text(b"P4 1 1 \x00"), "81080000\n82000000\n84040000\n");
+    assert_eq!(survey::text(b"P4 1 1"), "800c0000\n");
+}
+
+/// Every row that files are counted under is a row of docs/DIFFERENCES.md.
+#[test]
+fn rows_are_written_down() {
+    let text = include_str!("../../docs/DIFFERENCES.md");
+    for row in pbm::netpbm::ROWS {
+        assert!(text.contains(&format!("\n| {row} | ")), "no row '{row}'");
+    }
 }
