@@ -42,10 +42,11 @@ fn read(line: &[u8], out: &mut [u8], at: usize) -> usize {
 fn read_into(file: &[u8], room: usize, out: &mut [u8], at: usize) -> usize
     requires { ⌜ room ≤ 65536 ⌝ }
 {
-    let mut pixels = [OLD; MOST];
-    let picture = pbm::read_pbm(file, &mut pixels[0..room]);
+    let mut places = [OLD; MOST];
+    let pixels = &mut places[0..room];
+    let picture = pbm::read_pbm(file, pixels);
     let end = put_picture(picture, out, at);
-    case_lists::put_bytes(&pixels[0..room], out, end)
+    case_lists::put_bytes(pixels, out, end)
 }
 
 fn put_picture(picture: Picture, out: &mut [u8], at: usize) -> usize {
@@ -94,8 +95,9 @@ fn write_chart(line: &[u8], chart: Chart, out: &mut [u8], at: usize) -> usize {
 fn write_into(chart: Chart, pixels: &[u8], room: usize, out: &mut [u8], at: usize) -> usize
     requires { ⌜ room ≤ 65536 ⌝ }
 {
-    let mut text = [OLD; MOST];
-    let answer = pbm::write_pbm(chart, pixels, &mut text[0..room]);
+    let mut places = [OLD; MOST];
+    let text = &mut places[0..room];
+    let answer = pbm::write_pbm(chart, pixels, text);
     let end = case_texts::put_answer(answer, out, at);
-    case_lists::put_bytes(&text[0..room], out, end)
+    case_lists::put_bytes(text, out, end)
 }
