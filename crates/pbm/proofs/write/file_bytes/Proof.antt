@@ -29,6 +29,9 @@ module _ (c : Chart) (n b : ℕ) (head : n ≡ length (headText c)) (row : b ≡
 
 ruleset laws = (head-short, all-fit, sum-fits, sum, needs)
 
+returns : tie.Need-returns
+returns c = search laws
+
 pub file-bytes-spec : {M : Type 1} → statement M
 file-bytes-spec =
     tie.close
@@ -38,4 +41,4 @@ file-bytes-spec =
     (λ c κs. search needs)  -- row-bytes-requires
     (λ c. search laws)  -- mul-result
     (λ c. search laws)  -- add-result
-    (λ c. search laws))  -- returns
+    returns)

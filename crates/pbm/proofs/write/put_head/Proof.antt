@@ -8,6 +8,9 @@ use Rattle.pbm.proofs.write.put_head.Tie as tie
 
 ruleset laws = (first-room, second-room, head-next, head-over, needs)
 
+returns : tie.Need-returns
+returns c = (search laws, search laws)
+
 pub put-head-spec : {M : Type 1} → statement M
 put-head-spec =
     tie.close
@@ -18,4 +21,4 @@ put-head-spec =
     (λ c κs. search laws)  -- put-size-requires
     (λ c κs. search laws)  -- put-size-requires-2
     (λ c. search head-kept)  -- same-length
-    (λ c. (search laws, search laws)))  -- returns
+    returns)

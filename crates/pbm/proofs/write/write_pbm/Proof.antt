@@ -80,6 +80,12 @@ module _ (c : Chart) (pixels out : List ℕ) where
 
 ruleset laws = (bad, wide, high, enough, no-room, rows-room, done, needs)
 
+returns-2 : tie.Need-returns-2
+returns-2 c = search laws
+
+returns-3 : tie.Need-returns-3
+returns-3 c = search laws
+
 pub write-pbm-spec : {M : Type 1} → statement M
 write-pbm-spec =
     tie.close
@@ -87,8 +93,8 @@ write-pbm-spec =
     (λ c κs. search needs)  -- bad-chart-requires
     (λ c. search laws)  -- returns
     (λ c κs. search laws)  -- file-bytes-requires
-    (λ c. search laws)  -- returns-2
+    returns-2
     (λ c κs. search laws)  -- put-head-requires
     (λ c κs. search laws)  -- copy-rows-requires
     (λ c. search needs)  -- same-length
-    (λ c. search laws))  -- returns-3
+    returns-3)
