@@ -4,13 +4,13 @@ use Prim.Native.Nat.{ℕ, zero, suc, _+_, _-_, _*_, _/_, _%_, _^_, _≤_, _<_}
 use mathlib.Core.Bool.{Bool, true, false, _&&_}
 use mathlib.Core.List.{List, [], _∷_, _++_, append-nil}
 use mathlib.Core.Path.{_≡_, refl, sym, ap, ap₂, _∙_}
-use native.Mathlib.Nat.{le-refl, add-zero, add-suc, zero-mul, mul-assoc, mul-comm, mul-one, zero-lt-suc, pow-suc, div-one, div-eq-of-lt, div-lt-iff-lt-mul}
+use native.Mathlib.Nat.{add-zero, add-suc, zero-mul, mul-assoc, mul-comm, mul-one, zero-lt-suc, pow-suc, div-one, div-eq-of-lt, div-lt-iff-lt-mul}
 use native.Mathlib.Numerals.{add-one}
 use native.Mathlib.Omega.{arith}
 use lib.Dec.{ltb, eqb}
 use lib.ListN.{length, getD, set, drop, length-append, List·getD-append}
 use lib.Pow.{shr-shr}
-use lib.Seq.{paste, paste-suc, getD-at}
+use lib.Seq.{getD-at}
 use borrow.Author.Tests.{lt-ltb, le-ltb, ltb-true}
 use Rattle.laws.specs.Lists.{over, over-push}
 use Rattle.bitmap.specs.Pixels.{rowBytes, bitOf, cell, one}
@@ -31,9 +31,6 @@ pub packed-lt : (n : ℕ) (p : ℕ → Bool) → packed n p < 2 ^ n
 unfolding packed
 packed-lt zero p = omega arith
 packed-lt (suc n) p = omega (arith, packed-lt n p, one-le (p n), pow-suc 2 n)
-
-pub packed-byte : (p : ℕ → Bool) → packed 8 p < 256
-packed-byte p = packed-lt 8 p
 
 -- n pixels, and k that are not set
 more-clear : (n k : ℕ) (p q : ℕ → Bool) → ((j : ℕ) → j < n → p j ≡ q j) → ((j : ℕ) → n ≤ j → j < n + k → p j ≡ false) →
@@ -60,10 +57,6 @@ packed-bits b (suc n) l h =
     let s : b / 2 ^ (8 - suc n) / 2 ≡ b / 2 ^ (8 - n) = shr-shr b (8 - suc n) 1 ∙ ap (λ (i : ℕ). b / 2 ^ i) f in
     rw (digit, e, packed-bits b n l (omega arith)) (omega (arith, s))
 
--- a byte is its eight bits
-pub packed-itself : (b : ℕ) → b < 256 → packed 8 (bitOf b) ≡ b
-packed-itself b l = packed-bits b 8 l (le-refl 8) ∙ div-one b
-
 -- ---- and back: each pixel is a bit of the number
 
 packed-digit : (n j : ℕ) (p : ℕ → Bool) → j < n → packed n p / 2 ^ (n - suc j) % 2 ≡ one (p j)
@@ -85,13 +78,10 @@ one-back : (t : Bool) → eqb (one t) 1 ≡ t
 one-back true = refl
 one-back false = refl
 
-pub packed-column : (p : ℕ → Bool) (x : ℕ) → bitOf (packed 8 p) x ≡ p (x % 8)
+packed-column : (p : ℕ → Bool) (x : ℕ) → bitOf (packed 8 p) x ≡ p (x % 8)
 packed-column p x =
     let e : 7 - x % 8 ≡ 8 - suc (x % 8) = omega arith in
     rw (e, packed-digit 8 (x % 8) p (omega arith)) (one-back (p (x % 8)))
-
-pub packed-bit : (p : ℕ → Bool) (j : ℕ) → j < 8 → bitOf (packed 8 p) j ≡ p j
-packed-bit p j h = let e : j % 8 ≡ j = omega arith in packed-column p j ∙ ap p e
 
 -- ---- what a function gives for 0, 1, .. n - 1
 
@@ -114,16 +104,10 @@ unfolding listed
 listed-same zero f g h = refl
 listed-same (suc n) f g h = rw (listed-same n f g (λ i l. h i (omega arith)), h n (omega arith))
 
--- a loop that writes them to the start of a buffer, and one that writes them from a place on
+-- a loop that writes them to the start of a buffer
 pub listed-over : (f : ℕ → ℕ) (old : List ℕ) (i : ℕ) → i < length old → set (over (listed i f) old) i (f i) ≡ over (listed (i + 1) f) old
 unfolding listed
 listed-over f old i h = rw add-one (over-push (listed i f) old i (f i) (length-listed i f) h)
-
-pub listed-pasted : (n : ℕ) (f : ℕ → ℕ) (old : List ℕ) (at i : ℕ) → at + n ≤ length old → i < n →
-    set (paste old at (listed n f) i) (at + i) (f i) ≡ paste old at (listed n f) (i + 1)
-listed-pasted n f old at i h l =
-    ap (set (paste old at (listed n f) i) (at + i)) (sym (listed-at n f i l))
-    ∙ rw add-one (paste-suc old at (listed n f) i 0 (omega arith) (omega (arith, length-listed n f)))
 
 -- ---- a chart's bytes
 
@@ -135,9 +119,6 @@ module _ (c : Chart) (set : ℕ → ℕ → Bool) where
   pub byteAt-is : (i : ℕ) → byteAt c set i ≡ packed 8 (λ j. shown (i % rowBytes (c .width) * 8 + j) (i / rowBytes (c .width)))
   unfolding byteAt
   byteAt-is i = refl
-
-  pub byteAt-lt : (i : ℕ) → byteAt c set i < 256
-  byteAt-lt i = rw byteAt-is (packed-byte (λ j. shown (i % rowBytes (c .width) * 8 + j) (i / rowBytes (c .width))))
 
   byte-column : (i x : ℕ) → bitOf (byteAt c set i) x ≡ shown (i % rowBytes (c .width) * 8 + x % 8) (i / rowBytes (c .width))
   byte-column i x = rw byteAt-is (packed-column (λ j. shown (i % rowBytes (c .width) * 8 + j) (i / rowBytes (c .width))) x)
