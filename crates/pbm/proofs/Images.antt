@@ -16,7 +16,7 @@ use Rattle.bitmap.specs.Pixels.{rowBytes, side, cell}
 use Rattle.bitmap.specs.declared.Chart.{Chart}
 use Rattle.bitmap.proofs.Sizes.{side-within}
 use Rattle.pbm.specs.Header.{Header, rasterIn}
-use Rattle.pbm.specs.Raster.{Image, Digits, rawIn, digitsIn, plainIn, imageIn}
+use Rattle.pbm.specs.Raster.{Digits, rawIn, digitsIn, plainIn, imageIn}
 use Rattle.pbm.specs.inside.Places.{behindDigits, behindImage, hasImage, setOf, imageOf, bitsOf, whole}
 
 -- ---- sides

@@ -3,7 +3,7 @@ use Prim.Native.Nat.{ℕ, _-_, _*_, _≤_, _<_, min}
 use mathlib.Core.Bool.{Bool, true, false, not, _&&_, _||_}
 use mathlib.Core.List.{List}
 use mathlib.Core.Option.{Option, some, none}
-use mathlib.Core.Path.{_≡_, refl, sym, ap, _∙_}
+use mathlib.Core.Path.{_≡_, refl, sym, _∙_}
 use native.Mathlib.Omega.{arith}
 use lib.Dec.{leb}
 use lib.ListN.{length}
@@ -15,7 +15,7 @@ use Rattle.bitmap.specs.declared.Chart.{Chart}
 use Rattle.pbm.specs.Header.{Header, headerIn}
 use Rattle.pbm.specs.Raster.{Image, imageIn}
 use Rattle.pbm.specs.Bytes.{chartBytes}
-use Rattle.pbm.specs.Calls.{Outcome, refused, laid, readBehind, readOf}
+use Rattle.pbm.specs.Calls.{refused, laid, readBehind, readOf}
 use Rattle.pbm.specs.inside.Places.{placeOf, cut}
 use Rattle.pbm.specs.declared.Picture.the-variants.{Read}
 use Rattle.pbm.specs.declared.header.Place.the-variants.{At, Nowhere}

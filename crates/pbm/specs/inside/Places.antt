@@ -1,11 +1,11 @@
 -- What the functions of this crate promise one another: places of a file in place of what is left of it. Nobody need believe it.
-use Prim.Native.Nat.{ℕ, _-_, _*_, min}
+use Prim.Native.Nat.{ℕ, _-_, min}
 use mathlib.Core.Bool.{Bool, true, false}
 use mathlib.Core.List.{List, []}
 use mathlib.Core.Option.{Option, some, none}
 use lib.ListN.{length, drop}
 use Rattle.bitmap.specs.declared.Chart.{Chart}
-use Rattle.pbm.specs.Header.{Number, Header, headerIn}
+use Rattle.pbm.specs.Header.{Number, Header}
 use Rattle.pbm.specs.Raster.{Image, Digits, rawIn, plainIn}
 use Rattle.pbm.specs.declared.header.Header as Read
 use Rattle.pbm.specs.declared.header.Head.{Head}

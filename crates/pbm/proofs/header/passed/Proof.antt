@@ -1,7 +1,7 @@
 -- `pbm::header::passed` meets its contract. Assumes nothing.
 use Prim.Native.Nat.{ℕ}
-use mathlib.Core.Bool.{Bool, true, false, _||_}
-use mathlib.Core.Path.{_≡_, refl}
+use mathlib.Core.Bool.{Bool, _||_}
+use mathlib.Core.Path.{_≡_}
 use borrow.Author.Needs.{needs}
 use Rattle.pbm.specs.Header.{white, hash}
 use Rattle.pbm.proofs.header.passed.Statement.{statement}

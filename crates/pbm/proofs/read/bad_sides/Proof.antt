@@ -1,7 +1,7 @@
 -- `pbm::read::bad_sides` meets its contract: not both sides are good, if one of them is not. Assumes nothing.
 use Prim.Native.Nat.{ℕ}
 use mathlib.Core.Bool.{Bool, true, false, not, _&&_, _||_}
-use mathlib.Core.Path.{_≡_, refl, ap, _∙_}
+use mathlib.Core.Path.{_≡_, refl}
 use borrow.Author.Needs.{needs}
 use Rattle.bitmap.specs.Pixels.{side}
 use Rattle.pbm.proofs.read.bad_sides.Statement.{statement}

@@ -2,13 +2,13 @@
 use Prim.Native.Nat.{ℕ, _+_, _-_, _*_, _≤_, _<_}
 use mathlib.Core.Bool.{Bool, true, false}
 use mathlib.Core.List.{List}
-use mathlib.Core.Path.{_≡_, sym, ap, _∙_}
+use mathlib.Core.Path.{_≡_, ap}
 use native.Mathlib.Omega.{arith}
 use lib.ListN.{length, drop, length-drop}
 use borrow.Author.Needs.{needs}
 use Rattle.bitmap.specs.Pixels.{rowBytes}
 use Rattle.bitmap.specs.declared.Chart.{Chart}
-use Rattle.pbm.specs.Raster.{digitsIn, rawIn, plainIn}
+use Rattle.pbm.specs.Raster.{digitsIn}
 use Rattle.pbm.specs.inside.Places.{placeOf, behindDigits, behindImage, imageOf}
 use Rattle.pbm.specs.declared.header.Place.{Place}
 use Rattle.pbm.specs.declared.header.Place.the-variants.{At, Nowhere}
