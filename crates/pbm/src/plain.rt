@@ -82,14 +82,14 @@ fn gather(file: &[u8], from: usize, n: usize) -> Gathered
         × (behindDigits (digitsIn n (drop from (now (file .entry)))) ≡ some (drop (r .end) (now (file .entry)))) ⌝ }
 {
     let mut byte = 0;
-    let mut left = n;
+    let mut wanted = n;
     let mut i = from;
-    while 0 < left {
+    while 0 < wanted {
         let b = file[i];
         i += 1;
         if !white(b) {
             byte = byte * 2 + (b - b'0');
-            left -= 1;
+            wanted -= 1;
         }
     }
     Gathered {

@@ -51,7 +51,13 @@ module _ (file : List ℕ) (i left : ℕ) (end : Option (List ℕ)) (inv : behin
       let k : i ≡ length file - length (drop i file) = rw length-drop (omega arith) in
       ap At k ∙ ap (λ (e : Option (List ℕ)). placeOf file e) (sym (ap (λ (n : ℕ). behindDigits (digitsIn n (drop i file))) z) ∙ inv)
 
-ruleset laws = (file-ends, one-digit, one-blank, other, all-there, needs)
+ruleset laws = (file-ends, one-digit, other, needs)
+
+returns-3 : tie.Need-returns-3 Inv-loop μ-loop
+returns-3 c = search all-there
+
+loop-again-2 : tie.Need-loop-again-2 Inv-loop μ-loop
+loop-again-2 c = (search needs, search one-blank)
 
 pub digits-end-spec : {M : Type 1} → statement M
 digits-end-spec =
@@ -70,5 +76,5 @@ digits-end-spec =
     (λ c κs. tt)  -- white-requires
     (λ c. search laws)  -- returns-2
     (λ c. search needs)  -- loop-less-2
-    (λ c. search laws)  -- loop-again-2
-    (λ c. search laws))  -- returns-3
+    loop-again-2
+    returns-3)

@@ -29,26 +29,26 @@ abbrev bit : Option Digits → ℕ → Bool
 bit d = λ j. getD (bitsOf d) j false
 
 abbrev Inv-loop : tie.InvT-loop
-Inv-loop file from n byte₀ left₀ i₀ byte left i =
-    (left ≤ n)
-    × (byte ≡ packed (n - left) (bit (digitsIn n (drop from file))))
-    × (digitsIn left (drop i file) ≡ skip (n - left) (digitsIn n (drop from file)))
+Inv-loop file from n byte₀ wanted₀ i₀ byte wanted i =
+    (wanted ≤ n)
+    × (byte ≡ packed (n - wanted) (bit (digitsIn n (drop from file))))
+    × (digitsIn wanted (drop i file) ≡ skip (n - wanted) (digitsIn n (drop from file)))
 
 abbrev μ-loop : tie.MeasureT-loop
-μ-loop file from n byte₀ left₀ i₀ byte left i = length file - i
+μ-loop file from n byte₀ wanted₀ i₀ byte wanted i = length file - i
 
-module _ (file : List ℕ) (i left n : ℕ) (d : Option Digits) (there : whole d ≡ true) (most : n ≤ 8) (within : left ≤ n)
-    (inv : digitsIn left (drop i file) ≡ skip (n - left) d) where
-  module _ (more : 0 < left) where
-    left-whole : whole (digitsIn left (drop i file)) ≡ true
-    left-whole = ap whole inv ∙ whole-skip (n - left) d ∙ there
+module _ (file : List ℕ) (i wanted n : ℕ) (d : Option Digits) (there : whole d ≡ true) (most : n ≤ 8) (within : wanted ≤ n)
+    (inv : digitsIn wanted (drop i file) ≡ skip (n - wanted) d) where
+  module _ (more : 0 < wanted) where
+    those-whole : whole (digitsIn wanted (drop i file)) ≡ true
+    those-whole = ap whole inv ∙ whole-skip (n - wanted) d ∙ there
 
     in-file : i < length file
     in-file = go (ltb i (length file)) refl
       where
         go : (t : Bool) → ltb i (length file) ≡ t → i < length file
         go true e = ltb-true i (length file) e
-        go false e = absurd (false≢true (sym (ap whole (none-left file i left more (ltb-false i (length file) e))) ∙ left-whole))
+        go false e = absurd (false≢true (sym (ap whole (none-left file i wanted more (ltb-false i (length file) e))) ∙ those-whole))
 
     next-fits : length file * 1 < 2 ^ 63 → Fits w64 (i + 1)
     next-fits h = record { fits = omega (arith, in-file) }
@@ -61,23 +61,23 @@ module _ (file : List ℕ) (i left n : ℕ) (d : Option Digits) (there : whole d
         is-digit : (eqb (getD file i 0) 48 || eqb (getD file i 0) 49) ≡ true
         is-digit =
             digit-if (getD file i 0) (sym said ∙ not-true w no)
-            (λ e. absurd (false≢true (sym (ap whole (wrong-at file i in-file left more e)) ∙ left-whole)))
+            (λ e. absurd (false≢true (sym (ap whole (wrong-at file i in-file wanted more e)) ∙ those-whole)))
 
         a-digit : 48 ≤ getD file i 0
         a-digit = omega (arith, digit-value (getD file i 0) is-digit)
 
-        one-more : n - left + 1 ≡ n - (left - 1)
+        one-more : n - wanted + 1 ≡ n - (wanted - 1)
         one-more = omega arith
 
-        others : onto (eqb (getD file i 0) 49) (digitsIn (left - 1) (drop (i + 1) file)) ≡ skip (n - left) d
-        others = sym (pixel-at file i in-file left (eqb (getD file i 0) 49) more (zero-or-one (getD file i 0) is-digit)) ∙ inv
+        others : onto (eqb (getD file i 0) 49) (digitsIn (wanted - 1) (drop (i + 1) file)) ≡ skip (n - wanted) d
+        others = sym (pixel-at file i in-file wanted (eqb (getD file i 0) 49) more (zero-or-one (getD file i 0) is-digit)) ∙ inv
 
-        less-left : digitsIn (left - 1) (drop (i + 1) file) ≡ skip (n - (left - 1)) d
-        less-left = next-others (n - left) (eqb (getD file i 0) 49) _ d others ∙ ap (λ (k : ℕ). skip k d) one-more
+        fewer-wanted : digitsIn (wanted - 1) (drop (i + 1) file) ≡ skip (n - (wanted - 1)) d
+        fewer-wanted = next-others (n - wanted) (eqb (getD file i 0) 49) _ d others ∙ ap (λ (k : ℕ). skip k d) one-more
 
-        module _ (byte : ℕ) (held : byte ≡ packed (n - left) (bit d)) where
+        module _ (byte : ℕ) (held : byte ≡ packed (n - wanted) (bit d)) where
           small : byte < 128
-          small = lt-of-lt-of-le (rw held (packed-lt (n - left) (bit d))) (pow-mono {i = n - left} {j = 7} (omega arith))
+          small = lt-of-lt-of-le (rw held (packed-lt (n - wanted) (bit d))) (pow-mono {i = n - wanted} {j = 7} (omega arith))
 
           double-fits : Fits w8 (byte * 2)
           double-fits = record { fits = omega (arith, small) }
@@ -85,25 +85,25 @@ module _ (file : List ℕ) (i left n : ℕ) (d : Option Digits) (there : whole d
           sum-fits : Fits w8 (byte * 2 + (getD file i 0 - 48))
           sum-fits = record { fits = omega (arith, small, digit-value (getD file i 0) is-digit, one-le (eqb (getD file i 0) 49)) }
 
-          more-held : byte * 2 + (getD file i 0 - 48) ≡ packed (n - (left - 1)) (bit d)
+          more-held : byte * 2 + (getD file i 0 - 48) ≡ packed (n - (wanted - 1)) (bit d)
           unfolding packed
           more-held =
-              rw (← one-more, add-one, next-bit (n - left) (eqb (getD file i 0) 49) (digitsIn (left - 1) (drop (i + 1) file)) d others there)
+              rw (← one-more, add-one, next-bit (n - wanted) (eqb (getD file i 0) 49) (digitsIn (wanted - 1) (drop (i + 1) file)) d others there)
               (omega (arith, digit-value (getD file i 0) is-digit))
 
-      one-blank : not w ≡ false → digitsIn left (drop (i + 1) file) ≡ skip (n - left) d
-      one-blank e = sym (blank-at file i in-file left more (white-blank (getD file i 0) (sym said ∙ not-false w e))) ∙ inv
+      one-blank : not w ≡ false → digitsIn wanted (drop (i + 1) file) ≡ skip (n - wanted) d
+      one-blank e = sym (blank-at file i in-file wanted more (white-blank (getD file i 0) (sym said ∙ not-false w e))) ∙ inv
 
-  module _ (all : left ≤ 0) where
+  module _ (all : wanted ≤ 0) where
     ends : behindDigits d ≡ some (drop i file)
     unfolding digitsIn
     ends =
-        let z : left ≡ 0 = omega arith in
-        sym (behind-skip (n - left) d) ∙ sym (ap behindDigits inv) ∙ ap (λ (k : ℕ). behindDigits (digitsIn k (drop i file))) z
+        let z : wanted ≡ 0 = omega arith in
+        sym (behind-skip (n - wanted) d) ∙ sym (ap behindDigits inv) ∙ ap (λ (k : ℕ). behindDigits (digitsIn k (drop i file))) z
 
-moved-up : (byte n left : ℕ) (p : ℕ → Bool) → byte ≡ packed (n - left) p → left ≤ 0 → n ≤ 8 → byte * 2 ^ (8 - n) % 256 ≡ packed n p * 2 ^ (8 - n)
-moved-up byte n left p held all most =
-    let z : n - left ≡ n = omega arith in
+moved-up : (byte n wanted : ℕ) (p : ℕ → Bool) → byte ≡ packed (n - wanted) p → wanted ≤ 0 → n ≤ 8 → byte * 2 ^ (8 - n) % 256 ≡ packed n p * 2 ^ (8 - n)
+moved-up byte n wanted p held all most =
+    let z : n - wanted ≡ n = omega arith in
     ap (λ (b : ℕ). b * 2 ^ (8 - n) % 256) (held ∙ ap (λ (k : ℕ). packed k p) z)
     ∙ shl-exact n (8 - n) 8 (packed-lt n p) (omega arith)
 
@@ -114,7 +114,10 @@ starts-empty : (n : ℕ) (p : ℕ → Bool) → 0 ≡ packed (n - n) p
 unfolding packed
 starts-empty n p = let z : n - n ≡ 0 = omega arith in rw z
 
-ruleset laws = (in-file, next-fits, shorter, a-digit, less-left, double-fits, sum-fits, more-held, one-blank, ends, moved-up, needs)
+ruleset laws = (in-file, next-fits, shorter, a-digit, fewer-wanted, double-fits, sum-fits, more-held, one-blank, needs)
+
+returns : tie.Need-returns Inv-loop μ-loop
+returns c = (search moved-up, search ends)
 
 pub gather-spec : {M : Type 1} → statement M
 gather-spec =
@@ -129,7 +132,7 @@ gather-spec =
     (λ c. search laws)  -- mul-byte
     (λ c. search laws)  -- sub-byte
     (λ c. search laws)  -- add-byte
-    (λ c. search needs)  -- sub-left
+    (λ c. search needs)  -- sub-wanted
     (λ c. search laws)  -- loop-less
     (λ c. search laws)  -- loop-again
     (λ c. search laws)  -- loop-less-2
@@ -137,4 +140,4 @@ gather-spec =
     (λ c. search needs)  -- sub-t14
     (λ c. search needs)  -- cast-t15
     (λ c. search needs)  -- shl-t16
-    (λ c. (search laws, search laws)))  -- returns
+    returns)
