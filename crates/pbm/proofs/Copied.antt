@@ -58,7 +58,7 @@ module _ (c : Chart) (pixels : List ℕ) (i : ℕ) (small : getD pixels i 0 < 25
 -- ---- the column behind byte i: in the next byte it is eight further, or the next row begins
 
 module _ (width i x : ℕ) (wide : side width ≡ true) (column : x ≡ i % rowBytes width * 8) where
-  place-in-row : i % rowBytes width < rowBytes width
+  pub place-in-row : i % rowBytes width < rowBytes width
   unfolding rowBytes
   place-in-row = mod-lt i (omega (arith, wide-within width wide))
 

@@ -2,13 +2,13 @@
 use Prim.Native.Nat.{ℕ, suc, _+_, _-_, _*_, _/_, _%_, _≤_, _<_, min}
 use mathlib.Core.Bool.{Bool, true, false}
 use mathlib.Core.Path.{_≡_, refl, sym, ap, _∙_}
-use native.Mathlib.Nat.{add-zero, zero-mul, suc-mul, mul-comm, mul-le-mul-right, zero-mod, zero-div, mod-lt, div-add-mod', div-eq-of-lt, div-lt-iff-lt-mul, mul-add-div-right}
+use native.Mathlib.Nat.{add-zero, zero-mul, suc-mul, mul-comm, mul-le-mul-right, zero-mod, zero-div, div-add-mod', div-eq-of-lt, div-lt-iff-lt-mul, mul-add-div-right}
 use native.Mathlib.Numerals.{add-one}
 use native.Mathlib.Omega.{arith}
 use lib.Dec.{ltb}
 use borrow.Author.Tests.{ltb-true, ltb-false}
 use Rattle.bitmap.specs.Pixels.{side, rowBytes}
-use Rattle.pbm.proofs.Copied.{wide-within, next-column, next-row}
+use Rattle.pbm.proofs.Copied.{place-in-row, next-column, next-row}
 
 -- those of the rows above byte i, and of its own row eight in each byte
 unfoldable pub before : ℕ → ℕ → ℕ
@@ -40,13 +40,12 @@ module _ (b i : ℕ) where
 -- ---- byte i, which begins in column x
 
 module _ (width i x : ℕ) (wide : side width ≡ true) (column : x ≡ i % rowBytes width * 8) where
-  place-in-row : i % rowBytes width < rowBytes width
-  unfolding rowBytes
-  place-in-row = mod-lt i (omega (arith, wide-within width wide))
+  place : i % rowBytes width < rowBytes width
+  place = place-in-row width i x wide column
 
   pub in-row : x < width
   unfolding rowBytes
-  in-row = omega (arith, place-in-row)
+  in-row = omega (arith, place)
 
   pub before-is : before width i ≡ i / rowBytes width * width + x
   unfolding before
@@ -63,11 +62,11 @@ module _ (width i x : ℕ) (wide : side width ≡ true) (column : x ≡ i % rowB
           rw (same-row (rowBytes width) i (omega arith)) (omega (arith, next-column width i x wide column h))
       by-test false e =
           let h : width ≤ x + 8 = ltb-false (x + 8) width e in
-          let last : suc (i % rowBytes width) ≡ rowBytes width = omega (arith, place-in-row) in
+          let last : suc (i % rowBytes width) ≡ rowBytes width = omega (arith, place) in
           rw (row-behind (rowBytes width) i (omega arith) last, add-one, suc-mul) (omega (arith, next-row width i x wide column h, in-row))
 
   pub before-within : (height : ℕ) → i < rowBytes width * height → before width i + min (width - x) 8 ≤ width * height
   before-within height h =
-      let some-bytes : 0 < rowBytes width = omega (arith, place-in-row) in
+      let some-bytes : 0 < rowBytes width = omega (arith, place) in
       let row : i / rowBytes width < height = div-lt-iff-lt-mul some-bytes .1 (rw (mul-comm height (rowBytes width)) h) in
       omega (arith, before-is, in-row, suc-mul (i / rowBytes width) width, mul-le-mul-right width row, mul-comm width height)
