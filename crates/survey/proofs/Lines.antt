@@ -1,12 +1,12 @@
 -- How long the lines of an answer are, and lines put one behind the other. Assumes nothing.
 use Prim.Native.Nat.{ℕ, _+_, _*_, _-_, _≤_}
 use mathlib.Core.Bool.{true}
-use mathlib.Core.List.{List, [], _∷_, _++_}
+use mathlib.Core.List.{List, [], _∷_}
 use mathlib.Core.Path.{_≡_, ap, _∙_}
 use native.Mathlib.Omega.{arith}
-use lib.IntN.{ℤ, pos}
+use lib.IntN.{ℤ}
 use lib.ListN.{length, take, length-append, length-take}
-use Rattle.refusals.specs.Refusals.{refusalNumber, numberOf, countOf}
+use Rattle.refusals.specs.Refusals.{refusalNumber}
 use Rattle.bitmap.specs.Start.{firstStart}
 use Rattle.bitmap.specs.declared.Chart.{Chart}
 use Rattle.bitmap.specs.declared.Start.{Start}

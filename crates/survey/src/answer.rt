@@ -67,8 +67,8 @@ fn put_numbers(list: &[i32], output: &mut [u8], at: usize) -> usize
     ensures { λ r. ⌜ record { next = r; out = now (output .exit) }
         ≡ put (line (numbersReply (numberedOf (now (list .entry)) numberRoom))) (now (output .entry)) at ⌝ }
 {
-    let end = reduce_reply::put_numbered(list, output, at);
-    texts::put_byte(b'\n', output, end)
+    let behind = reduce_reply::put_numbered(list, output, at);
+    texts::put_byte(b'\n', output, behind)
 }
 
 // Puts a line of points.

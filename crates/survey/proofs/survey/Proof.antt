@@ -1,13 +1,10 @@
 -- `survey::survey` is safe and ends: what the step asks for lies in its buffers, and each read brings bytes or is the last. Assumes nothing.
-use Prim.Native.Nat.{ℕ, zero, suc, _+_, _*_, _-_, _^_, _≤_, _<_}
+use Prim.Native.Nat.{ℕ, _+_, _-_, _≤_, _<_}
 use mathlib.Core.Bool.{Bool, true, false, not, _&&_}
 use mathlib.Core.List.{List}
 use mathlib.Core.Path.{_≡_, refl, sym, ap, subst, _∙_}
 use native.Mathlib.Omega.{arith}
-use lib.Dec.{ltb}
-use lib.ListN.{length, take, drop, length-take, length-drop}
-use mir.Syntax.{w64}
-use mir.Val.{Fits}
+use lib.ListN.{length}
 use borrow.Author.Needs.{needs}
 use Rattle.laws.specs.If.{if-cases}
 use Rattle.bitmap.specs.Pixels.{one}

@@ -1,7 +1,7 @@
 -- `survey::put_simplified` meets its contract: one line and behind it the other, for which there is room. Assumes nothing.
 use Prim.Native.Nat.{ℕ, _+_, _*_, _-_, _≤_}
 use mathlib.Core.Bool.{true}
-use mathlib.Core.List.{List, _++_}
+use mathlib.Core.List.{List}
 use mathlib.Core.Path.{_≡_, ap, ap₂, _∙_}
 use native.Mathlib.Omega.{arith}
 use lib.IntN.{ℤ}
@@ -53,6 +53,9 @@ module _ (list : List ℤ) (a : Answer) (last-kept : List ℤ) (k : ℕ) (is : r
 
 ruleset laws = (kept-fit, kept-part, part-short, second-fits, needs)
 
+returns : tie.Need-returns
+returns c = search both
+
 pub put-simplified-spec : {M : Type 1} → statement M
 put-simplified-spec =
     tie.close
@@ -71,4 +74,4 @@ put-simplified-spec =
     (λ c. search laws)  -- part-put-numbers-end
     (λ c κs. search laws)  -- put-numbers-requires
     (λ c. search needs)  -- same-length
-    (λ c. search both))  -- returns
+    returns)

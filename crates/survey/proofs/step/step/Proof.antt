@@ -1,7 +1,7 @@
 -- `survey::step` meets its contract: the answer to what came, or nothing put. Assumes nothing.
 use Prim.Native.Nat.{ℕ, _+_, _≤_}
 use mathlib.Core.Bool.{Bool, true, false, not, _&&_}
-use mathlib.Core.List.{List, _++_}
+use mathlib.Core.List.{List}
 use mathlib.Core.Path.{_≡_, refl, sym, ap, _∙_}
 use native.Mathlib.Omega.{arith}
 use lib.ListN.{length}
@@ -63,6 +63,9 @@ module _ (file : List ℕ) (more : Bool) (output : List ℕ) (p : Picture) (pixe
       record { next = n; out = last } ≡ put (refusedLine (refusalNumber r)) output 0 → record { turn = Write n; output = last } ≡ stepOf file more output
   refused r n last e m h put-there = answered (Picture.Refused r) n last e (rw m) h put-there
 
+returns : tie.Need-returns
+returns c = search waits
+
 pub step-spec : {M : Type 1} → statement M
 step-spec =
     tie.close
@@ -73,7 +76,7 @@ step-spec =
     (λ c. search needs)  -- slice-aggregate-put-lines
     (λ c κs. search needs)  -- put-lines-requires
     (λ c. search needs)  -- enum-known-refusal
-    (λ c. search waits)  -- returns
+    returns
     (λ c κs. search needs)  -- put-refusal-requires
     (λ c. search needs)  -- same-length
     (λ c. search read)  -- returns-2
