@@ -11,7 +11,7 @@ ghost use Rattle.pbm.specs.Bytes.{packed, chartBytes};
 ghost use Rattle.pbm.specs.Raster.{digitsIn};
 ghost use Rattle.pbm.specs.inside.Places.{placeOf, behindDigits, bitsOf, whole};
 use crate::header::Place;
-use crate::header::white;
+use crate::letters::white;
 use bitmap::Chart;
 
 // Some pixels of one byte, and the place behind the last of them.

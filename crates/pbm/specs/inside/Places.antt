@@ -10,8 +10,8 @@ use Rattle.pbm.specs.Raster.{Image, Digits, rawIn, plainIn}
 use Rattle.pbm.specs.declared.header.Header as Read
 use Rattle.pbm.specs.declared.header.Head.{Head}
 use Rattle.pbm.specs.declared.header.Head.the-variants as Head
-use Rattle.pbm.specs.declared.header.Size.{Size}
-use Rattle.pbm.specs.declared.header.Size.the-variants as Size
+use Rattle.pbm.specs.declared.decimal.Size.{Size}
+use Rattle.pbm.specs.declared.decimal.Size.the-variants as Size
 use Rattle.pbm.specs.declared.header.Place.{Place}
 use Rattle.pbm.specs.declared.header.Place.the-variants as Place
 

@@ -9,8 +9,8 @@ use lib.ListN.{length, drop}
 use borrow.Author.Needs.{needs}
 use Rattle.pbm.specs.Header.{Number, sizeIn, sizesIn}
 use Rattle.pbm.specs.inside.Places.{sizeOf, headOf}
-use Rattle.pbm.specs.declared.header.Size.{Size}
-use Rattle.pbm.specs.declared.header.Size.the-variants as Size
+use Rattle.pbm.specs.declared.decimal.Size.{Size}
+use Rattle.pbm.specs.declared.decimal.Size.the-variants as Size
 use Rattle.pbm.specs.declared.header.Head.the-variants as Head
 use Rattle.pbm.proofs.Left.{left-of-left, drop-left, left-place, size-left}
 use Rattle.pbm.proofs.header.sizes.Statement.{statement}

@@ -1,4 +1,4 @@
--- `pbm::header::parted` meets its contract. Assumes nothing.
+-- `pbm::blanks::parted` meets its contract. Assumes nothing.
 use Prim.Native.Nat.{ℕ, _≤_, _<_}
 use mathlib.Core.Bool.{Bool, false, _||_}
 use mathlib.Core.List.{List}
@@ -7,8 +7,8 @@ use lib.ListN.{length, getD, drop, drop-of-length-le}
 use lib.Seq.{drop-cons}
 use borrow.Author.Needs.{needs}
 use Rattle.pbm.specs.Header.{white, hash, begins}
-use Rattle.pbm.proofs.header.parted.Statement.{statement}
-use Rattle.pbm.proofs.header.parted.Tie as tie
+use Rattle.pbm.proofs.blanks.parted.Statement.{statement}
+use Rattle.pbm.proofs.blanks.parted.Tie as tie
 
 module _ (file : List ℕ) (at : ℕ) where
   past-end : length file ≤ at → false ≡ (begins white (drop at file) || begins hash (drop at file))

@@ -1,4 +1,4 @@
--- `pbm::header::digit_at` meets its contract. Assumes nothing.
+-- `pbm::decimal::digit_at` meets its contract. Assumes nothing.
 use Prim.Native.Nat.{ℕ, _≤_, _<_}
 use mathlib.Core.Bool.{Bool, false}
 use mathlib.Core.List.{List}
@@ -7,8 +7,8 @@ use lib.ListN.{length, getD, drop, drop-of-length-le}
 use lib.Seq.{drop-cons}
 use borrow.Author.Needs.{needs}
 use Rattle.pbm.specs.Header.{digit, begins}
-use Rattle.pbm.proofs.header.digit_at.Statement.{statement}
-use Rattle.pbm.proofs.header.digit_at.Tie as tie
+use Rattle.pbm.proofs.decimal.digit_at.Statement.{statement}
+use Rattle.pbm.proofs.decimal.digit_at.Tie as tie
 
 module _ (file : List ℕ) (at : ℕ) where
   past-end : length file ≤ at → false ≡ begins digit (drop at file)

@@ -1,4 +1,4 @@
--- `pbm::header::past_line` meets its contract. The loop's invariant: what is left behind the line's end is the same from `i` on.
+-- `pbm::blanks::past_line` meets its contract. The loop's invariant: what is left behind the line's end is the same from `i` on.
 -- Assumes nothing.
 use Prim.Native.Nat.{ℕ, suc, _+_, _-_, _≤_, _<_}
 use mathlib.Core.Bool.{Bool, true, false}
@@ -10,8 +10,8 @@ use lib.ListN.{length, getD, drop, length-drop, drop-of-length-le}
 use lib.Seq.{drop-cons}
 use borrow.Author.Needs.{needs}
 use Rattle.pbm.specs.Header.{lineEnd, pastLine}
-use Rattle.pbm.proofs.header.past_line.Statement.{statement}
-use Rattle.pbm.proofs.header.past_line.Tie as tie
+use Rattle.pbm.proofs.blanks.past_line.Statement.{statement}
+use Rattle.pbm.proofs.blanks.past_line.Tie as tie
 
 abbrev Inv-loop : tie.InvT-loop
 Inv-loop file from i₀ i = (i ≤ length file) × (pastLine (drop from file) ≡ pastLine (drop i file))

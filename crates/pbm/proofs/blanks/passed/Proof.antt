@@ -1,11 +1,11 @@
--- `pbm::header::passed` meets its contract. Assumes nothing.
+-- `pbm::blanks::passed` meets its contract. Assumes nothing.
 use Prim.Native.Nat.{ℕ}
 use mathlib.Core.Bool.{Bool, _||_}
 use mathlib.Core.Path.{_≡_}
 use borrow.Author.Needs.{needs}
 use Rattle.pbm.specs.Header.{white, hash}
-use Rattle.pbm.proofs.header.passed.Statement.{statement}
-use Rattle.pbm.proofs.header.passed.Tie as tie
+use Rattle.pbm.proofs.blanks.passed.Statement.{statement}
+use Rattle.pbm.proofs.blanks.passed.Tie as tie
 
 any : (comment w h : Bool) (b : ℕ) → w ≡ white b → h ≡ hash b → (comment || w || h) ≡ (comment || white b || hash b)
 any comment w h b e f = rw (e, f)

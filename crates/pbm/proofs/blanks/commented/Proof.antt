@@ -1,11 +1,11 @@
--- `pbm::header::commented` meets its contract. Assumes nothing.
+-- `pbm::blanks::commented` meets its contract. Assumes nothing.
 use Prim.Native.Nat.{ℕ}
 use mathlib.Core.Bool.{Bool, true, false, not}
 use mathlib.Core.Path.{_≡_}
 use borrow.Author.Needs.{needs}
 use Rattle.pbm.specs.Header.{lineEnd, hash, commented}
-use Rattle.pbm.proofs.header.commented.Statement.{statement}
-use Rattle.pbm.proofs.header.commented.Tie as tie
+use Rattle.pbm.proofs.blanks.commented.Statement.{statement}
+use Rattle.pbm.proofs.blanks.commented.Tie as tie
 
 module _ (comment r : Bool) (b : ℕ) where
   within : comment ≡ true → r ≡ lineEnd b → not r ≡ commented comment b

@@ -1,4 +1,4 @@
--- `pbm::header::read_size` meets its contract. Assumes nothing.
+-- `pbm::decimal::read_size` meets its contract. Assumes nothing.
 use Prim.Native.Nat.{ℕ, _≤_}
 use mathlib.Core.Bool.{Bool, true, false, not, _||_, false≢true}
 use mathlib.Core.List.{List}
@@ -11,10 +11,10 @@ use borrow.Author.Needs.{needs}
 use borrow.Author.Tests.{ltb-true, ltb-false, not-true, not-false}
 use Rattle.pbm.specs.Header.{white, hash, digit, begins, behind, digitsFrom, numberIn, sizeIn}
 use Rattle.pbm.specs.inside.Places.{sizeOf}
-use Rattle.pbm.specs.declared.header.Size.{Size}
-use Rattle.pbm.specs.declared.header.Size.the-variants.{Not}
-use Rattle.pbm.proofs.header.read_size.Statement.{statement}
-use Rattle.pbm.proofs.header.read_size.Tie as tie
+use Rattle.pbm.specs.declared.decimal.Size.{Size}
+use Rattle.pbm.specs.declared.decimal.Size.the-variants.{Not}
+use Rattle.pbm.proofs.decimal.read_size.Statement.{statement}
+use Rattle.pbm.proofs.decimal.read_size.Tie as tie
 
 module _ (file : List ℕ) (from : ℕ) (p : Bool) (says : p ≡ (begins white (drop from file) || begins hash (drop from file))) where
   not-parted : not p ≡ true → Not ≡ sizeOf file (sizeIn (drop from file))

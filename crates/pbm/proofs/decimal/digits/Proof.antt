@@ -1,4 +1,4 @@
--- `pbm::header::digits` meets its contract. The loop's invariant: what the digits from `i` on say, behind `value`, is what all say.
+-- `pbm::decimal::digits` meets its contract. The loop's invariant: what the digits from `i` on say, behind `value`, is what all say.
 -- Assumes nothing.
 use Prim.Native.Nat.{ℕ, suc, _+_, _-_, _*_, _≤_, _<_, min}
 use mathlib.Core.Bool.{Bool, true, false, not}
@@ -13,9 +13,9 @@ use borrow.Author.Needs.{needs}
 use borrow.Author.Tests.{not-true, not-false}
 use Rattle.pbm.specs.Header.{digit, Number, digitsFrom}
 use Rattle.pbm.specs.inside.Places.{sizeOf}
-use Rattle.pbm.specs.declared.header.Size.the-variants.{Is}
-use Rattle.pbm.proofs.header.digits.Statement.{statement}
-use Rattle.pbm.proofs.header.digits.Tie as tie
+use Rattle.pbm.specs.declared.decimal.Size.the-variants.{Is}
+use Rattle.pbm.proofs.decimal.digits.Statement.{statement}
+use Rattle.pbm.proofs.decimal.digits.Tie as tie
 
 abbrev Inv-loop : tie.InvT-loop
 Inv-loop file from value₀ i₀ value i =

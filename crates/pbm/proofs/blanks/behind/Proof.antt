@@ -1,4 +1,4 @@
--- `pbm::header::behind` meets its contract. The loop's invariant: what is left behind the bytes from `i` on is what is left of all.
+-- `pbm::blanks::behind` meets its contract. The loop's invariant: what is left behind the bytes from `i` on is what is left of all.
 -- Assumes nothing.
 use Prim.Native.Nat.{ℕ, _+_, _-_, _≤_, _<_}
 use mathlib.Core.Bool.{Bool, true, false, not, _||_}
@@ -10,8 +10,8 @@ use lib.Seq.{drop-cons}
 use borrow.Author.Needs.{needs}
 use borrow.Author.Tests.{not-true, not-false}
 use Rattle.pbm.specs.Header.{white, hash, commented, behind}
-use Rattle.pbm.proofs.header.behind.Statement.{statement}
-use Rattle.pbm.proofs.header.behind.Tie as tie
+use Rattle.pbm.proofs.blanks.behind.Statement.{statement}
+use Rattle.pbm.proofs.blanks.behind.Tie as tie
 
 abbrev Inv-loop : tie.InvT-loop
 Inv-loop file from comment₀ i₀ comment i = behind false (drop from file) ≡ behind comment (drop i file)

@@ -1,8 +1,8 @@
--- `pbm::header::line_end` meets its contract: the tests are those of the definition. Assumes nothing.
+-- `pbm::letters::line_end` meets its contract: the tests are those of the definition. Assumes nothing.
 use mathlib.Core.Path.{refl}
 use Rattle.pbm.specs.Header.{lineEnd}
-use Rattle.pbm.proofs.header.line_end.Statement.{statement}
-use Rattle.pbm.proofs.header.line_end.Tie as tie
+use Rattle.pbm.proofs.letters.line_end.Statement.{statement}
+use Rattle.pbm.proofs.letters.line_end.Tie as tie
 
 returns : tie.Need-returns
 unfolding lineEnd

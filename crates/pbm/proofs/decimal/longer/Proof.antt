@@ -1,4 +1,4 @@
--- `pbm::header::longer` meets its contract. Assumes nothing.
+-- `pbm::decimal::longer` meets its contract. Assumes nothing.
 use Prim.Native.Nat.{ℕ, _≤_}
 use mathlib.Core.Bool.{true}
 use mathlib.Core.Path.{_≡_}
@@ -7,8 +7,8 @@ use borrow.Author.Needs.{needs}
 use borrow.Author.Tests.{leb-true}
 use Rattle.laws.specs.Joined.{both-true}
 use Rattle.pbm.specs.Header.{digit}
-use Rattle.pbm.proofs.header.longer.Statement.{statement}
-use Rattle.pbm.proofs.header.longer.Tie as tie
+use Rattle.pbm.proofs.decimal.longer.Statement.{statement}
+use Rattle.pbm.proofs.decimal.longer.Tie as tie
 
 from-zero : (b : ℕ) → digit b ≡ true → 48 ≤ b
 unfolding digit
