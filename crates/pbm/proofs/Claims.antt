@@ -1,7 +1,8 @@
 -- What follows of the contracts, for their readers and their callers. Assumes nothing.
 use mathlib.Core.Path.{_≡_, sym, ap, _∙_}
 use denote.Ref.{now}
-use Rattle.pbm.specs.Calls.{Outcome, readOf, Written, writtenOf, pictureNumber}
+use Rattle.pbm.specs.Answers.{pictureNumber}
+use Rattle.pbm.specs.Calls.{Outcome, readOf, Written, writtenOf}
 use Rattle.pbm.proofs.read.read_pbm.Reads.{Post as Read}
 use Rattle.pbm.proofs.write.write_pbm.Reads.{Post as Write}
 use Rattle.pbm.proofs.Picture.number.Reads.{Post as Number}

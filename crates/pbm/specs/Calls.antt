@@ -6,7 +6,7 @@ use mathlib.Core.Option.{Option, some, none}
 use lib.Dec.{ltb}
 use lib.ListN.{length}
 use Rattle.laws.specs.Lists.{over}
-use Rattle.refusals.specs.Refusals.{refusalNumber, refuse_when_or_}
+use Rattle.refusals.specs.Refusals.{refuse_when_or_}
 use Rattle.refusals.specs.declared.Answer.{Answer}
 use Rattle.refusals.specs.declared.Answer.the-variants.{Done, Refused}
 use Rattle.refusals.specs.declared.Refusal.{Refusal}
@@ -80,9 +80,3 @@ written none text out = record { answer = Done (length text); out = over text ou
 unfoldable pub writtenOf : Chart → List ℕ → List ℕ → Written
 unfolding pictureText
 writtenOf c pixels out = written (writeRefusal c pixels out) (pictureText c pixels) out
-
--- ---- document 01's number of an answer
-
-abbrev pub pictureNumber : Picture → ℕ
-pictureNumber (Picture.Read c bytes) = 0
-pictureNumber (Picture.Refused r) = refusalNumber r

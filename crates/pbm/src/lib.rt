@@ -13,7 +13,7 @@ mod read;
 mod write;
 
 ghost use mathlib.Core.Path.{_≡_};
-ghost use Rattle.pbm.specs.Calls.{pictureNumber};
+ghost use Rattle.pbm.specs.Answers.{pictureNumber};
 use bitmap::Chart;
 pub use read::read_pbm;
 use refusals::Refusal;

@@ -12,6 +12,7 @@ ghost use Rattle.pbm.specs.Raster.{digitsIn};
 ghost use Rattle.pbm.specs.inside.Places.{placeOf, behindDigits, bitsOf, whole};
 use crate::header::Place;
 use crate::letters::white;
+use crate::raw::all_bytes;
 use bitmap::Chart;
 
 // Some pixels of one byte, and the place behind the last of them.
@@ -51,7 +52,7 @@ pub(crate) fn pack_rows(file: &[u8], from: usize, chart: Chart, pixels: &mut [u8
     ensures { λ _. ⌜ now (pixels .exit) ≡ over (chartBytes chart
         (λ x y. getD (bitsOf (digitsIn (chart .width * chart .height) (drop from (now (file .entry))))) (y * chart .width + x) false)) (now (pixels .entry)) ⌝ }
 {
-    let bytes = chart::row_bytes(chart.width) * chart.height;
+    let bytes = all_bytes(chart);
     let mut at = from;
     let mut x = 0;
     let mut i = 0;

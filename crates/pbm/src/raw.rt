@@ -8,6 +8,14 @@ ghost use Rattle.bitmap.specs.Pixels.{rowBytes, side, cell};
 ghost use Rattle.pbm.specs.Bytes.{chartBytes};
 use bitmap::Chart;
 
+// How many bytes a chart takes.
+pub(crate) fn all_bytes(chart: Chart) -> usize
+    requires { ⌜ (side (chart .width) ≡ true) × (side (chart .height) ≡ true) ⌝ }
+    ensures { λ r. ⌜ r ≡ rowBytes (chart .width) * chart .height ⌝ }
+{
+    chart::row_bytes(chart.width) * chart.height
+}
+
 // Copies a chart's rows, from the start of `pixels` to a place of `out`. Column `x` is where the next byte
 // begins.
 pub(crate) fn copy_rows(chart: Chart, pixels: &[u8], out: &mut [u8], at: usize)
@@ -16,7 +24,7 @@ pub(crate) fn copy_rows(chart: Chart, pixels: &[u8], out: &mut [u8], at: usize)
     ensures { λ _. ⌜ now (out .exit) ≡ take at (now (out .entry)) ++ chartBytes chart (cell chart (now (pixels .entry)))
         ++ drop (at + rowBytes (chart .width) * chart .height) (now (out .entry)) ⌝ }
 {
-    let bytes = chart::row_bytes(chart.width) * chart.height;
+    let bytes = all_bytes(chart);
     let mut x = 0;
     let mut i = 0;
     while i < bytes {

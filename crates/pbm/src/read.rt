@@ -16,6 +16,7 @@ use crate::header::raster;
 use crate::header::read_header;
 use crate::plain::digits_end;
 use crate::plain::pack_rows;
+use crate::raw::all_bytes;
 use crate::raw::copy_rows;
 use bitmap::Chart;
 use refusals::Refusal;
@@ -55,14 +56,6 @@ fn bad_sides(chart: Chart) -> bool
     ensures { λ r. ⌜ r ≡ (not (side (chart .width)) || not (side (chart .height))) ⌝ }
 {
     !(chart::side(chart.width) & chart::side(chart.height))
-}
-
-// How many bytes a chart takes.
-fn all_bytes(chart: Chart) -> usize
-    requires { ⌜ (side (chart .width) ≡ true) × (side (chart .height) ≡ true) ⌝ }
-    ensures { λ r. ⌜ r ≡ rowBytes (chart .width) * chart .height ⌝ }
-{
-    chart::row_bytes(chart.width) * chart.height
 }
 
 // The place behind the image; nowhere, if it is not whole.

@@ -9,6 +9,7 @@ ghost use Rattle.bitmap.specs.Pixels.{rowBytes, side};
 ghost use Rattle.texts.specs.Put.{put};
 ghost use Rattle.texts.specs.Text.{naturalText};
 ghost use Rattle.pbm.specs.Calls.{headText, writtenOf};
+use crate::raw::all_bytes;
 use crate::raw::copy_rows;
 use bitmap::Chart;
 use refusals::Answer;
@@ -37,7 +38,7 @@ fn file_bytes(chart: Chart) -> usize
     ensures { λ r. ⌜ r ≡ length (headText chart) + rowBytes (chart .width) * chart .height ⌝ }
 {
     let mut scratch = [0u8; 11];
-    put_head(chart, &mut scratch) + chart::row_bytes(chart.width) * chart.height
+    put_head(chart, &mut scratch) + all_bytes(chart)
 }
 
 // Puts the header, and answers how long it is.

@@ -18,7 +18,8 @@ use Rattle.measures.specs.Answers.{midPointNumber, midPointValues, measureNumbe
 use Rattle.measures.specs.declared.Measure.{Measure}
 use Rattle.measures.specs.declared.MidPoint.{MidPoint}
 use Rattle.passes.specs.Outcomes.{Outcome as Passed}
-use Rattle.pbm.specs.Calls.{pictureNumber, Outcome as Read, Written}
+use Rattle.pbm.specs.Answers.{pictureNumber}
+use Rattle.pbm.specs.Calls.{Outcome as Read, Written}
 use Rattle.pbm.specs.declared.Picture.{Picture}
 use Rattle.pbm.specs.declared.Picture.the-variants as Picture
 use Rattle.reduce.specs.Calls.{Points, Numbered, Marked, Reduced}

@@ -16,12 +16,11 @@ use borrow.Author.Tests.{lt-ltb, le-ltb}
 use Rattle.laws.specs.Lists.{over, over-nil}
 use Rattle.bitmap.specs.Pixels.{rowBytes, side}
 use Rattle.bitmap.specs.declared.Chart.{Chart}
-use Rattle.bitmap.proofs.Sizes.{bytes-of-rows}
 use Rattle.pbm.specs.Bytes.{packed, byteAt, listed, chartBytes}
 use Rattle.pbm.specs.Raster.{Digits, digitsIn}
 use Rattle.pbm.specs.inside.Places.{behindDigits, bitsOf, whole}
 use Rattle.pbm.proofs.Bytes.{packed-padded, byteAt-is, listed-over}
-use Rattle.pbm.proofs.Copied.{all-fit, column-fits, next-column, next-row}
+use Rattle.pbm.proofs.Copied.{column-fits, next-column, next-row}
 use Rattle.pbm.proofs.Counted.{before, before-none, before-is, before-next, before-within, in-row}
 use Rattle.pbm.proofs.Digits.{skip, skip-zero, more-left, more-whole, more-bits}
 use Rattle.pbm.proofs.plain.pack_rows.Statement.{statement}
@@ -49,12 +48,12 @@ Inv-loop file from chart pixels₀ bytes at₀ x₀ i₀ pixels at x i = Packing
 abbrev μ-loop : tie.MeasureT-loop
 μ-loop file from chart pixels₀ bytes at₀ x₀ i₀ pixels at x i = bytes - i
 
-begun : (c : Chart) (file : List ℕ) (from : ℕ) (old : List ℕ) (b : ℕ) → b ≡ rowBytes (c .width) → Packing c file from old (b * c .height) old from 0 0
+begun : (c : Chart) (file : List ℕ) (from : ℕ) (old : List ℕ) (n : ℕ) → n ≡ rowBytes (c .width) * c .height → Packing c file from old n old from 0 0
 unfolding listed
-begun c file from old b e =
+begun c file from old n e =
     let z : c .width * c .height - 0 ≡ c .width * c .height = omega arith in
     record {
-      size = bytes-of-rows (c .width) (c .height) b e;
+      size = e;
       within = omega arith;
       same = refl;
       column = rw zero-mod;
@@ -150,8 +149,7 @@ pack-rows-spec =
     (tie.spec
     Inv-loop
     μ-loop
-    (λ c κs. tt)  -- row-bytes-requires
-    (λ c. search (all-fit, needs))  -- mul-bytes
+    (λ c κs. search needs)  -- all-bytes-requires
     (λ c. search (begun, needs))  -- loop-holds
     (λ c. search not-past)  -- sub-in-byte
     (λ c κs. tt)  -- in-byte-requires

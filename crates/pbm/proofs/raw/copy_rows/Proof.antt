@@ -14,10 +14,9 @@ use lib.Seq.{paste, paste-zero, paste-suc, take-all}
 use borrow.Author.Needs.{needs}
 use Rattle.bitmap.specs.Pixels.{side, rowBytes, cell}
 use Rattle.bitmap.specs.declared.Chart.{Chart}
-use Rattle.bitmap.proofs.Sizes.{bytes-of-rows}
 use Rattle.pbm.specs.Bytes.{byteAt, chartBytes}
 use Rattle.pbm.proofs.Bytes.{length-chartBytes, chartBytes-at}
-use Rattle.pbm.proofs.Copied.{wide-within, all-fit, byte-whole, byte-last, next-column, next-row, padding-few, column-fits}
+use Rattle.pbm.proofs.Copied.{wide-within, byte-whole, byte-last, next-column, next-row, padding-few, column-fits}
 use Rattle.pbm.proofs.raw.copy_rows.Statement.{statement}
 use Rattle.pbm.proofs.raw.copy_rows.Tie as tie
 
@@ -39,9 +38,9 @@ Inv-loop chart pixels out₀ at bytes x₀ i₀ out x i = Copying chart pixels o
 abbrev μ-loop : tie.MeasureT-loop
 μ-loop chart pixels out₀ at bytes x₀ i₀ out x i = bytes - i
 
-begun : (c : Chart) (pixels old : List ℕ) (at b : ℕ) → b ≡ rowBytes (c .width) → Copying c pixels old at (b * c .height) old 0 0
-begun c pixels old at b e = record {
-  size = bytes-of-rows (c .width) (c .height) b e;
+begun : (c : Chart) (pixels old : List ℕ) (at n : ℕ) → n ≡ rowBytes (c .width) * c .height → Copying c pixels old at n old 0 0
+begun c pixels old at n e = record {
+  size = e;
   within = omega arith;
   same = refl;
   column = rw zero-mod;
@@ -82,7 +81,7 @@ module _ (c : Chart) (pixels old : List ℕ) (at n : ℕ) (out : List ℕ) (x i 
       let l : length (chartBytes c (cell c pixels)) ≤ rowBytes (c .width) * c .height = omega (arith, length-chartBytes c (cell c pixels)) in
       rw (inv .so-far, e, take-all (rowBytes (c .width) * c .height) (chartBytes c (cell c pixels)) l)
 
-ruleset laws = (all-fit, begun, at-column, few-past, whole-stored, last-stored, all, needs)
+ruleset laws = (begun, at-column, few-past, whole-stored, last-stored, all, needs)
 
 pub copy-rows-spec : {M : Type 1} → statement M
 copy-rows-spec =
@@ -90,8 +89,7 @@ copy-rows-spec =
     (tie.spec
     Inv-loop
     μ-loop
-    (λ c κs. search laws)  -- row-bytes-requires
-    (λ c. search laws)  -- mul-bytes
+    (λ c κs. search laws)  -- all-bytes-requires
     (λ c. search laws)  -- loop-holds
     (λ c. search laws)  -- shared-slice-read-byte
     (λ c. search laws)  -- add-to

@@ -11,23 +11,23 @@ use borrow.Author.Needs.{needs}
 use Rattle.bitmap.specs.Pixels.{side, rowBytes}
 use Rattle.bitmap.specs.declared.Chart.{Chart}
 use Rattle.pbm.specs.Calls.{headText}
-use Rattle.pbm.proofs.Copied.{wide-within, all-fit}
+use Rattle.pbm.proofs.Copied.{wide-within}
 use Rattle.pbm.proofs.HeadText.{head-short}
 use Rattle.pbm.proofs.write.file_bytes.Statement.{statement}
 use Rattle.pbm.proofs.write.file_bytes.Tie as tie
 
-module _ (c : Chart) (n b : ℕ) (head : n ≡ length (headText c)) (row : b ≡ rowBytes (c .width)) where
-  sum-fits : side (c .width) ≡ true → side (c .height) ≡ true → Fits w64 (n + b * c .height)
+module _ (c : Chart) (n b : ℕ) (head : n ≡ length (headText c)) (rows : b ≡ rowBytes (c .width) * c .height) where
+  sum-fits : side (c .width) ≡ true → side (c .height) ≡ true → Fits w64 (n + b)
   unfolding rowBytes
   sum-fits w h =
-      let few : b ≤ 64 = omega (arith, wide-within (c .width) w) in
-      let l : b * c .height ≤ 64 * 512 = mul-le-mul few (wide-within (c .height) h .1) in
+      let few : rowBytes (c .width) ≤ 64 = omega (arith, wide-within (c .width) w) in
+      let l : rowBytes (c .width) * c .height ≤ 64 * 512 = mul-le-mul few (wide-within (c .height) h .1) in
       record { fits = omega (arith, head-short c w h) }
 
-  sum : n + b * c .height ≡ length (headText c) + rowBytes (c .width) * c .height
-  sum = rw (head, row)
+  sum : n + b ≡ length (headText c) + rowBytes (c .width) * c .height
+  sum = rw (head, rows)
 
-ruleset laws = (head-short, all-fit, sum-fits, sum, needs)
+ruleset laws = (head-short, sum-fits, sum, needs)
 
 returns : tie.Need-returns
 returns c = search laws
@@ -38,7 +38,6 @@ file-bytes-spec =
     (tie.spec
     (λ c. search needs)  -- slice-aggregate-put-head
     (λ c κs. search laws)  -- put-head-requires
-    (λ c κs. search needs)  -- row-bytes-requires
-    (λ c. search laws)  -- mul-result
+    (λ c κs. search needs)  -- all-bytes-requires
     (λ c. search laws)  -- add-result
     returns)
