@@ -19,13 +19,13 @@ use Rattle.pbm.specs.Bytes.{listed, chartBytes}
 use Rattle.pbm.specs.Calls.{Outcome, readOf, headText, pictureText, writtenOf}
 use Rattle.pbm.specs.declared.Picture.the-variants.{Read}
 use Rattle.pbm.proofs.Bytes.{cell-over, padding-over, padding-chart, chartBytes-again}
-use Rattle.pbm.proofs.ReadBack.{raw-back, plain-back}
-use Rattle.pbm.proofs.ReadInto.{read-into, good-parts, read-good}
-use Rattle.pbm.proofs.Alike.{ReadAlike, both-there, read-alike}
-use Rattle.pbm.proofs.Behind.{nothing-behind-matters}
-use Rattle.pbm.proofs.CutShort.{Refuses, cut-short-is-refused}
-use Rattle.pbm.proofs.Spaces.{inked, spaces-alike}
-use Rattle.pbm.proofs.Written.{written-done, written-same}
+use Rattle.pbm.proofs.theorems.ReadBack.{raw-back, plain-back}
+use Rattle.pbm.proofs.theorems.ReadInto.{read-into, good-parts, read-good}
+use Rattle.pbm.proofs.theorems.Alike.{ReadAlike, both-there, read-alike}
+use Rattle.pbm.proofs.theorems.Behind.{nothing-behind-matters}
+use Rattle.pbm.proofs.theorems.CutShort.{Refuses, cut-short-is-refused}
+use Rattle.pbm.proofs.theorems.Spaces.{inked, spaces-alike}
+use Rattle.pbm.proofs.theorems.Written.{written-done, written-same}
 
 -- a chart's pixels with their padding cleared, over the start of a buffer
 abbrev pub cleared : Chart → List ℕ → List ℕ → List ℕ

@@ -16,7 +16,7 @@ use Rattle.laws.specs.Lists.{over, take-over-all}
 use Rattle.pbm.specs.Calls.{Outcome, readOf}
 use Rattle.pbm.specs.declared.Picture.{Picture}
 use Rattle.pbm.specs.declared.Picture.the-variants as Picture
-use Rattle.pbm.proofs.Behind.{nothing-more-matters}
+use Rattle.pbm.proofs.theorems.Behind.{nothing-more-matters}
 use Rattle.survey.specs.Survey.{textOf, chartRoom, surveyText, isRead, whole, Step, stepOf}
 use Rattle.survey.specs.Runs.{Machine, came, behind, fed, done, stepIn, left, turned, after, started, Filled}
 use Rattle.survey.specs.declared.step.Turn.the-variants.{Read, Write}

@@ -14,7 +14,7 @@ use Rattle.pbm.specs.Bytes.{chartBytes}
 use Rattle.pbm.specs.Calls.{Outcome, readOf}
 use Rattle.pbm.specs.declared.Picture.the-variants.{Read}
 use Rattle.pbm.proofs.Bytes.{length-chartBytes}
-use Rattle.pbm.proofs.Told.{Told, told-refused, told-read, told, refused-is-not-read}
+use Rattle.pbm.proofs.theorems.Told.{Told, told-refused, told-read, told, refused-is-not-read}
 
 -- where a chart was read: its bytes lie over the start of the buffer, and nothing of what is refused holds
 pub record ReadInto (c : Chart) (buffer pixels : List ℕ) : Type 0 where

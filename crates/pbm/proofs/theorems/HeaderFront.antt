@@ -10,7 +10,7 @@ use lib.Dec.{leb, eqb}
 use borrow.Author.Tests.{leb-true, le-leb, lt-leb, ne-eqb}
 use Rattle.laws.specs.Joined.{both-true, both-false}
 use Rattle.pbm.specs.Header.{white, hash, digit, begins, commented, behind, Number, digitsFrom, numberIn, sizeIn, Header, sizesIn, headerIn}
-use Rattle.pbm.proofs.Front.{Front, at-once, longer, joined}
+use Rattle.pbm.proofs.theorems.Front.{Front, at-once, longer, joined}
 
 -- a list begins with white space or a comment
 abbrev pub parted : List ℕ → Bool

@@ -9,8 +9,8 @@ use Rattle.refusals.specs.declared.Refusal.{Refusal}
 use Rattle.bitmap.specs.declared.Chart.{Chart}
 use Rattle.pbm.specs.Calls.{Outcome, refused, readOf}
 use Rattle.pbm.specs.declared.Picture.the-variants as Picture
-use Rattle.pbm.proofs.Told.{Told, told-refused, told-read, told}
-use Rattle.pbm.proofs.Behind.{taken-at-most, nothing-more-matters}
+use Rattle.pbm.proofs.theorems.Told.{Told, told-refused, told-read, told}
+use Rattle.pbm.proofs.theorems.Behind.{taken-at-most, nothing-more-matters}
 
 -- no image is read of it: the bytes that were cut off would be bytes behind that image, and the whole file gives the same one
 pub cut-short : (file pixels : List ℕ) (c : Chart) (n : ℕ) → readOf file pixels .answer ≡ Picture.Read c n

@@ -17,10 +17,10 @@ use Rattle.pbm.specs.Raster.{Image, imageIn}
 use Rattle.pbm.specs.Bytes.{chartBytes}
 use Rattle.pbm.specs.Calls.{laid, readOf}
 use Rattle.pbm.specs.declared.Picture.the-variants as Picture
-use Rattle.pbm.proofs.Front.{Front, anything}
-use Rattle.pbm.proofs.HeaderFront.{parted, headed, header-front}
-use Rattle.pbm.proofs.ImageFront.{Seen, seen, showing, image-front, image-is-parted}
-use Rattle.pbm.proofs.Told.{Found, read-is, found}
+use Rattle.pbm.proofs.theorems.Front.{Front, anything}
+use Rattle.pbm.proofs.theorems.HeaderFront.{parted, headed, header-front}
+use Rattle.pbm.proofs.theorems.ImageFront.{Seen, seen, showing, image-front, image-is-parted}
+use Rattle.pbm.proofs.theorems.Told.{Found, read-is, found}
 
 -- ---- an image that is seen, taken out
 

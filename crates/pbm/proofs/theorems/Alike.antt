@@ -15,7 +15,7 @@ use Rattle.pbm.specs.Calls.{Outcome, refused, laid, readBehind, readOf}
 use Rattle.pbm.specs.declared.Picture.{Picture}
 use Rattle.pbm.specs.declared.Picture.the-variants.{Read, Refused}
 use Rattle.pbm.proofs.Bytes.{chartBytes-same}
-use Rattle.pbm.proofs.Told.{badSides}
+use Rattle.pbm.proofs.theorems.Told.{badSides}
 
 -- an answer but for how many bytes were taken
 abbrev pub uncounted : Picture → Picture

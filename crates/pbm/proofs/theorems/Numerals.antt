@@ -12,7 +12,7 @@ use borrow.Author.Tests.{le-leb, lt-ltb, ltb-true}
 use Rattle.laws.specs.If.{if_then_else_}
 use Rattle.texts.specs.Text.{glyphOf, decimalDigits, naturalText}
 use Rattle.pbm.specs.Header.{white, hash, digit, begins, digitsFrom, numberIn, sizeIn}
-use Rattle.pbm.proofs.HeaderFront.{digits-go-on, digits-stop, stops-at-a-digit, size-is}
+use Rattle.pbm.proofs.theorems.HeaderFront.{digits-go-on, digits-stop, stops-at-a-digit, size-is}
 
 -- ---- digits
 

@@ -7,8 +7,8 @@ use mathlib.Core.Path.{_≡_, refl, ap, _∙_}
 use Rattle.bitmap.specs.declared.Chart.{Chart}
 use Rattle.texts.specs.Text.{naturalText}
 use Rattle.pbm.specs.Header.{white, hash, digit, sizesIn, headerIn}
-use Rattle.pbm.proofs.Numerals.{size-read}
-use Rattle.pbm.proofs.HeaderFront.{sizes-are}
+use Rattle.pbm.proofs.theorems.Numerals.{size-read}
+use Rattle.pbm.proofs.theorems.HeaderFront.{sizes-are}
 
 -- "newline, width, space, height, newline"
 abbrev pub sizesText : Chart → List ℕ

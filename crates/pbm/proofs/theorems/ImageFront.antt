@@ -18,8 +18,8 @@ use Rattle.pbm.specs.inside.Places.{hasImage, imageOf}
 use Rattle.pbm.proofs.Bytes.{byte-below, chartBytes-same}
 use Rattle.pbm.proofs.Digits.{blank-first, pixel-first, wrong-first}
 use Rattle.pbm.proofs.Images.{raw-whole, raw-enough, no-raster, image-of-raster}
-use Rattle.pbm.proofs.Front.{Front, anything, at-once, longer, joined}
-use Rattle.pbm.proofs.HeaderFront.{parted, headed}
+use Rattle.pbm.proofs.theorems.Front.{Front, anything, at-once, longer, joined}
+use Rattle.pbm.proofs.theorems.HeaderFront.{parted, headed}
 
 -- ---- a comment with the end of its line: it has one, if anything is left behind it
 

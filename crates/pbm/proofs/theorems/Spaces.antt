@@ -8,8 +8,8 @@ use Rattle.bitmap.specs.declared.Chart.{Chart}
 use Rattle.pbm.specs.Header.{white, Header}
 use Rattle.pbm.specs.Raster.{Sign, blank, pixel, wrong, signOf, Digits, onto, digitsIn, rowsOf, plainIn, imageIn}
 use Rattle.pbm.specs.Calls.{readOf}
-use Rattle.pbm.proofs.HeadRead.{sizesText, plain-read}
-use Rattle.pbm.proofs.Alike.{ReadAlike, ImagesAlike, both-missing, both-there, read-alike}
+use Rattle.pbm.proofs.theorems.HeadRead.{sizesText, plain-read}
+use Rattle.pbm.proofs.theorems.Alike.{ReadAlike, ImagesAlike, both-missing, both-there, read-alike}
 use Rattle.pbm.proofs.Digits.{white-blank, blank-first, pixel-first, wrong-first}
 
 -- the bytes that are no white space

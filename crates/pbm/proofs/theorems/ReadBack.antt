@@ -15,11 +15,11 @@ use Rattle.pbm.specs.Bytes.{chartBytes}
 use Rattle.pbm.specs.Calls.{headText, readOf}
 use Rattle.pbm.specs.declared.Picture.the-variants.{Read}
 use Rattle.pbm.proofs.Bytes.{cell-append, chartBytes-same}
-use Rattle.pbm.proofs.HeadRead.{sizesText, raw-read, plain-read}
-use Rattle.pbm.proofs.Rasters.{digits, raw-image, plain-image, digit-image-same}
+use Rattle.pbm.proofs.theorems.HeadRead.{sizesText, raw-read, plain-read}
+use Rattle.pbm.proofs.theorems.Rasters.{digits, raw-image, plain-image, digit-image-same}
 use Rattle.pbm.proofs.Images.{side-most}
 use Rattle.pbm.proofs.Outcomes.{room}
-use Rattle.pbm.proofs.Told.{read-is}
+use Rattle.pbm.proofs.theorems.Told.{read-is}
 
 module _ (c : Chart) (set : ℕ → ℕ → Bool) (buffer : List ℕ) (wide : side (c .width) ≡ true) (high : side (c .height) ≡ true)
     (enough : rowBytes (c .width) * c .height ≤ length buffer) (more : List ℕ) where
