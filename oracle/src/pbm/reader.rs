@@ -1,4 +1,5 @@
-//! How a picture is read, by document 02 and by the text of the Netpbm format, from the front of a file.
+//! How a picture is read, by document 02 and by the text of the Netpbm format, from the front of a file. A comment ends a
+//! number and parts the header from the raster, as for netpbm's readers.
 //!
 //! netpbm's own reader goes another way in a few places. Each is a manner of this one and a row of
 //! docs/DIFFERENCES.md; without any of them it is document 02's.
