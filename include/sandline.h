@@ -143,7 +143,7 @@ uint8_t sandline_first_start(size_t width, size_t height, const uint8_t *pixels,
 // Refuses: a size out of range (1), as soon as both sizes are read; no room (10), and that last; what is no picture,
 // a byte of a plain raster that is not 0, 1 or white space, missing pixels (12). Refused, width and height hold what
 // they held.
-// Stack of sandline_read_pbm: 144 bytes.
+// Stack of sandline_read_pbm: 64 bytes.
 uint8_t sandline_read_pbm(const uint8_t *file, size_t length, uint8_t *pixels, size_t room, size_t *width,
                           size_t *height, size_t *count);
 
@@ -152,7 +152,7 @@ uint8_t sandline_read_pbm(const uint8_t *file, size_t length, uint8_t *pixels, s
 //
 // Room: as many bytes, 7 to 11 for the header and (width + 7) / 8 * height for the rows; 32,779 hold every chart.
 // Refuses: a bad chart (1), no room (10).
-// Stack of sandline_write_pbm: 80 bytes.
+// Stack of sandline_write_pbm: 56 bytes.
 uint8_t sandline_write_pbm(size_t width, size_t height, const uint8_t *pixels, size_t bytes, uint8_t *out,
                            size_t room, size_t *count);
 
