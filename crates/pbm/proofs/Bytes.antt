@@ -137,7 +137,7 @@ module _ (b x y : ℕ) (column : x < b * 8) where
   within : x / 8 < b
   within = omega arith
 
-  pub byte-below : (height : ℕ) → y < height → y * b + x / 8 < b * height
+  byte-below : (height : ℕ) → y < height → y * b + x / 8 < b * height
   byte-below = place-below b (x / 8) y within
 
   byte-within-row : (y * b + x / 8) % b ≡ x / 8
@@ -207,6 +207,15 @@ module _ (c : Chart) (set set′ : ℕ → ℕ → Bool) (same : (x y : ℕ) →
   pub chartBytes-same : chartBytes c set ≡ chartBytes c set′
   unfolding chartBytes
   chartBytes-same = listed-same (rowBytes (c .width) * c .height) (byteAt c set) (byteAt c set′) byteAt-same
+
+-- of two lists that have a chart's bytes in common
+pub rows-alike : (c : Chart) (p q : List ℕ) → ((i : ℕ) → i < rowBytes (c .width) * c .height → getD p i 0 ≡ getD q i 0) →
+    chartBytes c (cell c p) ≡ chartBytes c (cell c q)
+unfolding cell rowBytes
+rows-alike c p q same =
+    let n = rowBytes (c .width) in
+    chartBytes-same c (cell c p) (cell c q)
+    (λ x y h l. ap (λ (b : ℕ). bitOf b x) (same (y * n + x / 8) (byte-below n x y (omega arith) (c .height) l)))
 
 -- a chart's bytes, read as pixels, lie as they did
 pub chartBytes-again : (c : Chart) (set : ℕ → ℕ → Bool) (old : List ℕ) → chartBytes c (cell c (over (chartBytes c set) old)) ≡ chartBytes c set

@@ -77,8 +77,3 @@ module _ (width i x : ℕ) (wide : side width ≡ true) (column : x ≡ i % rowB
   next-row h =
       let l : suc (i % rowBytes width) ≡ rowBytes width = omega (arith, place-in-row) in
       rw (add-one, suc-mod, l, mod-self)
-
-  -- so many pixels of the byte are padding
-  pub padding-few : width ≤ x + 8 → x + 8 - width ≤ 7
-  unfolding rowBytes
-  padding-few h = omega (arith, place-in-row)

@@ -16,8 +16,8 @@ pub(crate) fn all_bytes(chart: Chart) -> usize
     chart::row_bytes(chart.width) * chart.height
 }
 
-// Copies a chart's rows, from the start of `pixels` to a place of `out`. Column `x` is where the next byte
-// begins.
+// Copies a chart's rows, from the start of `pixels` to a place of `out`: all bytes as they are, and then the
+// padding is cleared.
 pub(crate) fn copy_rows(chart: Chart, pixels: &[u8], out: &mut [u8], at: usize)
     requires { ⌜ (side (chart .width) ≡ true) × (side (chart .height) ≡ true) × (rowBytes (chart .width) * chart .height ≤ length (now pixels))
         × (at + rowBytes (chart .width) * chart .height ≤ length (now out)) ⌝ }
@@ -25,19 +25,24 @@ pub(crate) fn copy_rows(chart: Chart, pixels: &[u8], out: &mut [u8], at: usize)
         ++ drop (at + rowBytes (chart .width) * chart .height) (now (out .entry)) ⌝ }
 {
     let bytes = all_bytes(chart);
-    let mut x = 0;
-    let mut i = 0;
-    while i < bytes {
-        let byte = pixels[i];
-        let to = at + i;
-        i += 1;
-        x += 8;
-        if x < chart.width {
-            out[to] = byte;
-        } else {
-            out[to] = cleared(byte, x - chart.width);
-            x = 0;
-        }
+    texts::put_bytes(&pixels[0..bytes], out, at);
+    clear_padding(chart, out, at);
+}
+
+// Clears the padding of a chart's rows, which stand from a place of `out` on. Each row's last byte has it.
+fn clear_padding(chart: Chart, out: &mut [u8], at: usize)
+    requires { ⌜ (side (chart .width) ≡ true) × (side (chart .height) ≡ true) × (at + rowBytes (chart .width) * chart .height ≤ length (now out)) ⌝ }
+    ensures { λ _. ⌜ now (out .exit) ≡ take at (now (out .entry)) ++ chartBytes chart (cell chart (drop at (now (out .entry))))
+        ++ drop (at + rowBytes (chart .width) * chart .height) (now (out .entry)) ⌝ }
+{
+    let row = chart::row_bytes(chart.width);
+    let padding = row * 8 - chart.width;
+    let mut end = at;
+    let mut y = 0;
+    while y < chart.height {
+        end += row;
+        out[end - 1] = cleared(out[end - 1], padding);
+        y += 1;
     }
 }
 

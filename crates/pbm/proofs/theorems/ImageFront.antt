@@ -15,7 +15,7 @@ use Rattle.pbm.specs.Header.{white, lineEnd, hash, Header, pastLine, ras
 use Rattle.pbm.specs.Raster.{Image, rawIn, Sign, blank, pixel, wrong, signOf, Digits, onto, digitsIn, rowsOf, plainIn, imageIn}
 use Rattle.pbm.specs.Bytes.{chartBytes}
 use Rattle.pbm.specs.inside.Places.{hasImage, imageOf}
-use Rattle.pbm.proofs.Bytes.{byte-below, chartBytes-same}
+use Rattle.pbm.proofs.Bytes.{rows-alike}
 use Rattle.pbm.proofs.Digits.{blank-first, pixel-first, wrong-first}
 use Rattle.pbm.proofs.Images.{raw-whole, raw-enough, no-raster, image-of-raster}
 use Rattle.pbm.proofs.theorems.Front.{Front, anything, at-once, longer, joined}
@@ -161,15 +161,9 @@ module _ (c : Chart) where
 
   -- the bytes of all rows say every pixel of the chart
   rows-are-enough : (rows a b : List ℕ) → size ≤ length rows → chartBytes c (cell c (rows ++ a)) ≡ chartBytes c (cell c (rows ++ b))
-  unfolding cell rowBytes
-  rows-are-enough rows a b enough = chartBytes-same c (cell c (rows ++ a)) (cell c (rows ++ b)) at
-    where
-      at : (x y : ℕ) → x < c .width → y < c .height → cell c (rows ++ a) x y ≡ cell c (rows ++ b) x y
-      at x y h k =
-          let i = y * rowBytes (c .width) + x / 8 in
-          let below : i < size = byte-below (rowBytes (c .width)) x y (omega arith) (c .height) k in
-          let within : i < length rows = omega arith in
-          ap (λ (n : ℕ). bitOf n x) (List·getD-append rows a 0 i within ∙ sym (List·getD-append rows b 0 i within))
+  rows-are-enough rows a b enough =
+      rows-alike c (rows ++ a) (rows ++ b)
+      (λ i h. let l : i < length rows = omega arith in List·getD-append rows a 0 i l ∙ sym (List·getD-append rows b 0 i l))
 
   -- what a raw raster takes
   raw-front : (bs : List ℕ) (image : Image) → rawIn c bs ≡ some image → Front (λ l. seen c (rawIn c l)) (showing c image) anything bs (image .rest)
