@@ -11,7 +11,7 @@ use native.Mathlib.Omega.{arith}
 use lib.Dec.{eqb}
 use lib.ListN.{length, getD, take, drop, drop-of-length-le}
 use lib.Seq.{drop-cons, drop-drop, getD-drop, getD-take}
-use borrow.Author.Tests.{eqb-true}
+use borrow.Author.Tests.{eqb-true, ne-eqb, le-leb, lt-leb}
 use Rattle.laws.specs.Joined.{both-false}
 use Rattle.bitmap.specs.Pixels.{one}
 use Rattle.pbm.specs.Header.{white}
@@ -23,6 +23,11 @@ use Rattle.pbm.specs.inside.Places.{behindDigits, bitsOf, whole}
 pub white-blank : (b : ℕ) → white b ≡ true → signOf b ≡ blank
 unfolding signOf
 white-blank b h = rw (h, signOf)
+
+-- white space is below every digit
+pub not-white : (b : ℕ) → 48 ≤ b → white b ≡ false
+unfolding white
+not-white b h = rw (ne-eqb b 32 (λ e. omega arith), le-leb 9 b (omega arith), lt-leb b 13 (omega arith))
 
 pub zero-or-one : (b : ℕ) → (eqb b 48 || eqb b 49) ≡ true → signOf b ≡ pixel (eqb b 49)
 unfolding signOf
@@ -44,6 +49,14 @@ digit-if b w h = go (eqb b 48 || eqb b 49) refl
     go : (t : Bool) → (eqb b 48 || eqb b 49) ≡ t → t ≡ true
     go true e = refl
     go false e = absurd (h (neither b w e))
+
+-- one that is below every digit, and is not wrong
+pub white-if : (b : ℕ) → b < 48 → (signOf b ≡ wrong → ⊥) → white b ≡ true
+white-if b low h = go (white b) refl
+  where
+    go : (t : Bool) → white b ≡ t → t ≡ true
+    go true e = refl
+    go false e = absurd (h (neither b e (rw (ne-eqb b 48 (λ f. omega arith), ne-eqb b 49 (λ f. omega arith)))))
 
 pub digit-value : (b : ℕ) → (eqb b 48 || eqb b 49) ≡ true → b ≡ 48 + one (eqb b 49)
 digit-value b h = go (eqb b 48) refl h

@@ -76,7 +76,8 @@ fn in_byte(left: usize) -> usize
     if 8 < left { 8 } else { left }
 }
 
-// Gathers `n` digits, which are there and at most eight, into the high bits of a byte.
+// Gathers `n` digits, which are there and at most eight, into the high bits of a byte. What else stands
+// between them is white space, which is below every digit.
 fn gather(file: &[u8], from: usize, n: usize) -> Gathered
     requires { ⌜ (1 ≤ n) × (n ≤ 8) × (whole (digitsIn n (drop from (now file))) ≡ true) ⌝ }
     ensures { λ r. ⌜ (r .byte ≡ packed n (λ j. getD (bitsOf (digitsIn n (drop from (now (file .entry))))) j false) * 2 ^ (8 - n))
@@ -88,7 +89,7 @@ fn gather(file: &[u8], from: usize, n: usize) -> Gathered
     while 0 < wanted {
         let b = file[i];
         i += 1;
-        if !white(b) {
+        if b'0' <= b {
             byte = byte * 2 + (b - b'0');
             wanted -= 1;
         }

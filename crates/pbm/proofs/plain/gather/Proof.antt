@@ -1,6 +1,6 @@
 -- `pbm::plain::gather` meets its contract: the digits from i on are those behind the first ones, which the byte holds. Assumes nothing.
 use Prim.Native.Nat.{ℕ, _+_, _-_, _*_, _%_, _^_, _≤_, _<_}
-use mathlib.Core.Bool.{Bool, true, false, not, _||_, false≢true}
+use mathlib.Core.Bool.{Bool, true, false, _||_, false≢true}
 use mathlib.Core.List.{List}
 use mathlib.Core.Option.{Option, some}
 use mathlib.Core.Path.{_≡_, refl, sym, ap, _∙_}
@@ -13,14 +13,13 @@ use lib.Dec.{eqb, ltb}
 use lib.ListN.{length, getD, drop}
 use lib.Pow.{pow-mono, shl-exact}
 use borrow.Author.Needs.{needs}
-use borrow.Author.Tests.{not-true, not-false, ltb-true, ltb-false}
+use borrow.Author.Tests.{ltb-true, ltb-false}
 use Rattle.bitmap.proofs.Places.{one-le}
-use Rattle.pbm.specs.Header.{white}
 use Rattle.pbm.specs.Bytes.{packed}
-use Rattle.pbm.specs.Raster.{Digits, onto, digitsIn}
+use Rattle.pbm.specs.Raster.{wrong, signOf, Digits, onto, digitsIn}
 use Rattle.pbm.specs.inside.Places.{behindDigits, bitsOf, whole}
 use Rattle.pbm.proofs.Bytes.{packed-lt}
-use Rattle.pbm.proofs.Digits.{white-blank, zero-or-one, digit-if, digit-value, none-left, blank-at, pixel-at, wrong-at, skip, skip-zero, whole-skip, behind-skip, next-others, next-bit}
+use Rattle.pbm.proofs.Digits.{white-blank, not-white, white-if, zero-or-one, digit-if, digit-value, none-left, blank-at, pixel-at, wrong-at, skip, skip-zero, whole-skip, behind-skip, next-others, next-bit}
 use Rattle.pbm.proofs.plain.gather.Statement.{statement}
 use Rattle.pbm.proofs.plain.gather.Tie as tie
 
@@ -56,43 +55,41 @@ module _ (file : List ℕ) (i wanted n : ℕ) (d : Option Digits) (there : whole
     shorter : length file - (i + 1) < length file - i
     shorter = omega (arith, in-file)
 
-    module _ (w : Bool) (said : w ≡ white (getD file i 0)) where
-      module _ (no : not w ≡ true) where
-        is-digit : (eqb (getD file i 0) 48 || eqb (getD file i 0) 49) ≡ true
-        is-digit =
-            digit-if (getD file i 0) (sym said ∙ not-true w no)
-            (λ e. absurd (false≢true (sym (ap whole (wrong-at file i in-file wanted more e)) ∙ those-whole)))
+    -- no byte among them is wrong
+    not-wrong : signOf (getD file i 0) ≡ wrong → ⊥
+    not-wrong e = false≢true (sym (ap whole (wrong-at file i in-file wanted more e)) ∙ those-whole)
 
-        a-digit : 48 ≤ getD file i 0
-        a-digit = omega (arith, digit-value (getD file i 0) is-digit)
+    module _ (from-zero : 48 ≤ getD file i 0) where
+      is-digit : (eqb (getD file i 0) 48 || eqb (getD file i 0) 49) ≡ true
+      is-digit = digit-if (getD file i 0) (not-white (getD file i 0) from-zero) not-wrong
 
-        one-more : n - wanted + 1 ≡ n - (wanted - 1)
-        one-more = omega arith
+      one-more : n - wanted + 1 ≡ n - (wanted - 1)
+      one-more = omega arith
 
-        others : onto (eqb (getD file i 0) 49) (digitsIn (wanted - 1) (drop (i + 1) file)) ≡ skip (n - wanted) d
-        others = sym (pixel-at file i in-file wanted (eqb (getD file i 0) 49) more (zero-or-one (getD file i 0) is-digit)) ∙ inv
+      others : onto (eqb (getD file i 0) 49) (digitsIn (wanted - 1) (drop (i + 1) file)) ≡ skip (n - wanted) d
+      others = sym (pixel-at file i in-file wanted (eqb (getD file i 0) 49) more (zero-or-one (getD file i 0) is-digit)) ∙ inv
 
-        fewer-wanted : digitsIn (wanted - 1) (drop (i + 1) file) ≡ skip (n - (wanted - 1)) d
-        fewer-wanted = next-others (n - wanted) (eqb (getD file i 0) 49) _ d others ∙ ap (λ (k : ℕ). skip k d) one-more
+      fewer-wanted : digitsIn (wanted - 1) (drop (i + 1) file) ≡ skip (n - (wanted - 1)) d
+      fewer-wanted = next-others (n - wanted) (eqb (getD file i 0) 49) _ d others ∙ ap (λ (k : ℕ). skip k d) one-more
 
-        module _ (byte : ℕ) (held : byte ≡ packed (n - wanted) (bit d)) where
-          small : byte < 128
-          small = lt-of-lt-of-le (rw held (packed-lt (n - wanted) (bit d))) (pow-mono {i = n - wanted} {j = 7} (omega arith))
+      module _ (byte : ℕ) (held : byte ≡ packed (n - wanted) (bit d)) where
+        small : byte < 128
+        small = lt-of-lt-of-le (rw held (packed-lt (n - wanted) (bit d))) (pow-mono {i = n - wanted} {j = 7} (omega arith))
 
-          double-fits : Fits w8 (byte * 2)
-          double-fits = record { fits = omega (arith, small) }
+        double-fits : Fits w8 (byte * 2)
+        double-fits = record { fits = omega (arith, small) }
 
-          sum-fits : Fits w8 (byte * 2 + (getD file i 0 - 48))
-          sum-fits = record { fits = omega (arith, small, digit-value (getD file i 0) is-digit, one-le (eqb (getD file i 0) 49)) }
+        sum-fits : Fits w8 (byte * 2 + (getD file i 0 - 48))
+        sum-fits = record { fits = omega (arith, small, digit-value (getD file i 0) is-digit, one-le (eqb (getD file i 0) 49)) }
 
-          more-held : byte * 2 + (getD file i 0 - 48) ≡ packed (n - (wanted - 1)) (bit d)
-          unfolding packed
-          more-held =
-              rw (← one-more, add-one, next-bit (n - wanted) (eqb (getD file i 0) 49) (digitsIn (wanted - 1) (drop (i + 1) file)) d others there)
-              (omega (arith, digit-value (getD file i 0) is-digit))
+        more-held : byte * 2 + (getD file i 0 - 48) ≡ packed (n - (wanted - 1)) (bit d)
+        unfolding packed
+        more-held =
+            rw (← one-more, add-one, next-bit (n - wanted) (eqb (getD file i 0) 49) (digitsIn (wanted - 1) (drop (i + 1) file)) d others there)
+            (omega (arith, digit-value (getD file i 0) is-digit))
 
-      one-blank : not w ≡ false → digitsIn wanted (drop (i + 1) file) ≡ skip (n - wanted) d
-      one-blank e = sym (blank-at file i in-file wanted more (white-blank (getD file i 0) (sym said ∙ not-false w e))) ∙ inv
+    one-blank : getD file i 0 < 48 → digitsIn wanted (drop (i + 1) file) ≡ skip (n - wanted) d
+    one-blank below = sym (blank-at file i in-file wanted more (white-blank (getD file i 0) (white-if (getD file i 0) below not-wrong))) ∙ inv
 
   module _ (all : wanted ≤ 0) where
     ends : behindDigits d ≡ some (drop i file)
@@ -114,7 +111,7 @@ starts-empty : (n : ℕ) (p : ℕ → Bool) → 0 ≡ packed (n - n) p
 unfolding packed
 starts-empty n p = let z : n - n ≡ 0 = omega arith in rw z
 
-ruleset laws = (in-file, next-fits, shorter, a-digit, fewer-wanted, double-fits, sum-fits, more-held, one-blank, needs)
+ruleset laws = (in-file, next-fits, shorter, fewer-wanted, double-fits, sum-fits, more-held, one-blank, needs)
 
 returns : tie.Need-returns Inv-loop μ-loop
 returns c = (search moved-up, search ends)
@@ -128,16 +125,14 @@ gather-spec =
     (λ c. search (starts, starts-empty, needs))  -- loop-holds
     (λ c. search laws)  -- shared-slice-read-b
     (λ c. search laws)  -- add-i
-    (λ c κs. tt)  -- white-requires
     (λ c. search laws)  -- mul-byte
-    (λ c. search laws)  -- sub-byte
     (λ c. search laws)  -- add-byte
     (λ c. search needs)  -- sub-wanted
     (λ c. search laws)  -- loop-less
     (λ c. search laws)  -- loop-again
     (λ c. search laws)  -- loop-less-2
     (λ c. search laws)  -- loop-again-2
-    (λ c. search needs)  -- sub-t14
-    (λ c. search needs)  -- cast-t15
-    (λ c. search needs)  -- shl-t16
+    (λ c. search needs)  -- sub-t13
+    (λ c. search needs)  -- cast-t14
+    (λ c. search needs)  -- shl-t15
     returns)
