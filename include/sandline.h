@@ -143,7 +143,7 @@ uint8_t sandline_first_start(size_t width, size_t height, const uint8_t *pixels,
 // Refuses: a size out of range (1), as soon as both sizes are read; no room (10), and that last; what is no picture,
 // a byte of a plain raster that is not 0, 1 or white space, missing pixels (12). Refused, width and height hold what
 // they held.
-// Stack of sandline_read_pbm: 64 bytes.
+// Stack of sandline_read_pbm: 56 bytes.
 uint8_t sandline_read_pbm(const uint8_t *file, size_t length, uint8_t *pixels, size_t room, size_t *width,
                           size_t *height, size_t *count);
 
