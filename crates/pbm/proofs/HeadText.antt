@@ -15,7 +15,7 @@ use Rattle.bitmap.specs.Pixels.{side, rowBytes, cell}
 use Rattle.bitmap.specs.declared.Chart.{Chart}
 use Rattle.texts.specs.Text.{glyphOf, decimalDigits, naturalText}
 use Rattle.texts.specs.Put.{Outcome, put}
-use Rattle.texts.proofs.Pieces.{put-fits, put-both, second-fits}
+use Rattle.texts.proofs.Pieces.{put-fits, put-then, second-fits}
 use Rattle.pbm.specs.Bytes.{chartBytes}
 use Rattle.pbm.specs.Calls.{headText, pictureText}
 use Rattle.pbm.proofs.Bytes.{length-chartBytes}
@@ -63,12 +63,6 @@ module _ (c : Chart) (pixels : List ℕ) where
 
 -- ---- its parts
 
--- what two calls put, one behind the other
-pub put-then : (a b out mid last : List ℕ) (at m r : ℕ) → at + length (a ++ b) ≤ length out →
-    record { next = r; out = last } ≡ put b mid m → record { next = m; out = mid } ≡ put a out at →
-    record { next = r; out = last } ≡ put (a ++ b) out at
-put-then a b out mid last at m r room f e = f ∙ ap (λ (o : Outcome). put b (o .out) (o .next)) e ∙ put-both a b out at room
-
 -- three bytes stored at the start are put there
 three-put : (a b c : ℕ) (out : List ℕ) → 3 ≤ length out → record { next = 3; out = set (set (set out 0 a) 1 b) 2 c } ≡ put (a ∷ b ∷ c ∷ []) out 0
 three-put a b c out h = ap (λ (l : List ℕ). record { next = 3; out = l }) (sets-eq (a ∷ b ∷ c ∷ []) out 0 h) ∙ sym (put-fits (a ∷ b ∷ c ∷ []) out 0 h)
@@ -110,7 +104,7 @@ module _ (c : Chart) (out : List ℕ) (room : length (headText c) ≤ length out
 
   module _ (mid : List ℕ) (m : ℕ) (e : record { next = m; out = mid } ≡ put first magic 3) where
     both-put : record { next = m; out = mid } ≡ put (80 ∷ 52 ∷ 10 ∷ first) out 0
-    both-put = put-then (80 ∷ 52 ∷ 10 ∷ []) first out magic mid 0 3 m (omega (arith, all-length)) e (three-put 80 52 10 out magic-room)
+    both-put = put-then (80 ∷ 52 ∷ 10 ∷ []) first out magic mid 0 3 m (omega (arith, all-length)) (three-put 80 52 10 out magic-room) e
 
     pub second-room : m + length second ≤ length mid
     second-room =
@@ -121,7 +115,7 @@ module _ (c : Chart) (out : List ℕ) (room : length (headText c) ≤ length out
       head-put : (r ≡ length (headText c)) × (last ≡ over (headText c) out)
       head-put =
           put-over (headText c) out last r room
-          (put-then (80 ∷ 52 ∷ 10 ∷ first) second out mid last 0 m r (omega (arith, ap length whole)) f both-put ∙ ap (λ (t : List ℕ). put t out 0) whole)
+          (put-then (80 ∷ 52 ∷ 10 ∷ first) second out mid last 0 m r (omega (arith, ap length whole)) both-put f ∙ ap (λ (t : List ℕ). put t out 0) whole)
 
       pub head-next : r ≡ length (headText c)
       head-next = head-put .0

@@ -13,13 +13,6 @@ use borrow.Author.Tests.{leb-true, not-true, not-false}
 use Rattle.texts.specs.Put.{Outcome, put}
 use Rattle.texts.proofs.Pieces.{put-nothing, put-both, second-fits}
 
--- what two calls answer, one behind the other
-pub put-then : (a b out mid last : List ℕ) (at m r : ℕ) → at + length (a ++ b) ≤ length out →
-    record { next = m; out = mid } ≡ put a out at → record { next = r; out = last } ≡ put b mid m →
-    record { next = r; out = last } ≡ put (a ++ b) out at
-put-then a b out mid last at m r room e f =
-    f ∙ ap (λ (o : Outcome). put b (o .out) (o .next)) e ∙ put-both a b out at room
-
 -- `rest`, put at `end` of `out`, gives what `whole` at `at` of `out₀` does, and there is room for it
 pub record Left (whole out₀ : List ℕ) (at : ℕ) (rest out : List ℕ) (end : ℕ) : Type 0 where
   pub room : end + length rest ≤ length out

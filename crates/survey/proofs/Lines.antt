@@ -19,7 +19,7 @@ use Rattle.texts.proofs.Pieces.{put-fits}
 use Rattle.lines.specs.Turns.{line}
 use Rattle.replies.specs.Reply.{pointsText}
 use Rattle.replies.specs.Room.{room, numberRoom}
-use Rattle.replies.proofs.Behind.{put-then}
+use Rattle.texts.proofs.Pieces.{put-then}
 use Rattle.replies.proofs.Parts.{from-start, points-short}
 use Rattle.replies.proofs.Sizes.{length-points}
 use Rattle.walk_reply.specs.Reply.{walkReply}

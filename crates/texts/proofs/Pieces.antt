@@ -6,7 +6,7 @@ use native.Mathlib.Omega.{arith}
 use lib.ListN.{length, take, drop, length-append, take-append-drop}
 use lib.Seq.{drop-drop, length-take-le, take-at, drop-append-add}
 use borrow.Author.Tests.{le-leb}
-use Rattle.texts.specs.Put.{put}
+use Rattle.texts.specs.Put.{Outcome, put}
 
 -- what fits stands there
 module _ (text out : List ℕ) (at : ℕ) (room : at + length text ≤ length out) where
@@ -54,3 +54,9 @@ module _ (a b out : List ℕ) (at : ℕ) (room : at + length (a ++ b) ≤ length
 
   pub second-fits : put a out at .next + length b ≤ length (put a out at .out)
   second-fits = rw (put-fits a out at first-fits) (omega (arith, length-after, whole, room))
+
+-- what two calls answer, one behind the other
+pub put-then : (a b out mid last : List ℕ) (at m r : ℕ) → at + length (a ++ b) ≤ length out →
+    record { next = m; out = mid } ≡ put a out at → record { next = r; out = last } ≡ put b mid m →
+    record { next = r; out = last } ≡ put (a ++ b) out at
+put-then a b out mid last at m r room e f = f ∙ ap (λ (o : Outcome). put b (o .out) (o .next)) e ∙ put-both a b out at room

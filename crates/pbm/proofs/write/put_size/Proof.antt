@@ -1,6 +1,6 @@
 -- `pbm::write::put_size` meets its contract. Assumes nothing.
 use borrow.Author.Needs.{needs}
-use Rattle.pbm.proofs.HeadText.{put-then}
+use Rattle.texts.proofs.Pieces.{put-then}
 use Rattle.pbm.proofs.write.put_size.Statement.{statement}
 use Rattle.pbm.proofs.write.put_size.Tie as tie
 

@@ -8,7 +8,7 @@ use borrow.Author.Needs.{needs}
 use Rattle.texts.specs.Put.{put}
 use Rattle.texts.specs.Text.{hexText}
 use Rattle.replies.specs.Reply.{head}
-use Rattle.replies.proofs.Behind.{put-then}
+use Rattle.texts.proofs.Pieces.{put-then}
 use Rattle.replies.proofs.Sizes.{length-hex, length-head}
 use Rattle.replies.proofs.values.put_head.Statement.{statement}
 use Rattle.replies.proofs.values.put_head.Tie as tie

@@ -9,8 +9,9 @@ use lib.ListN.{length, drop, getD}
 use borrow.Author.Needs.{needs}
 use Rattle.texts.specs.Put.{put}
 use Rattle.texts.specs.Text.{hexText}
+use Rattle.texts.proofs.Pieces.{put-then}
 use Rattle.replies.specs.Reply.{head, doubles, numbersText}
-use Rattle.replies.proofs.Behind.{Left, put-then, left-all, left-value, left-end, head-fits, none-fits, all-fits}
+use Rattle.replies.proofs.Behind.{Left, left-all, left-value, left-end, head-fits, none-fits, all-fits}
 use Rattle.replies.proofs.Sizes.{length-numbers}
 use Rattle.replies.proofs.values.put_numbers.Statement.{statement}
 use Rattle.replies.proofs.values.put_numbers.Tie as tie

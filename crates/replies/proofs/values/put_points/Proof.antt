@@ -12,9 +12,10 @@ use mir.Val.{toZ, ofZ}
 use mir.ValLaws.{toZ-ofZ}
 use borrow.Author.Needs.{needs, sfits-of}
 use Rattle.texts.specs.Put.{put}
+use Rattle.texts.proofs.Pieces.{put-then}
 use Rattle.texts.specs.Text.{hexText}
 use Rattle.replies.specs.Reply.{head, coordinates, pointsText}
-use Rattle.replies.proofs.Behind.{Left, put-then, left-all, left-value, left-end, head-fits, none-fits, all-fits}
+use Rattle.replies.proofs.Behind.{Left, left-all, left-value, left-end, head-fits, none-fits, all-fits}
 use Rattle.replies.proofs.Sizes.{length-points}
 use Rattle.replies.proofs.values.put_points.Statement.{statement}
 use Rattle.replies.proofs.values.put_points.Tie as tie

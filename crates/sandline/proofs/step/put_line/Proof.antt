@@ -7,7 +7,7 @@ use lib.ListN.{length, length-append}
 use borrow.Author.Needs.{needs}
 use Rattle.texts.specs.Put.{put}
 use Rattle.lines.specs.Turns.{line}
-use Rattle.replies.proofs.Behind.{put-then}
+use Rattle.texts.proofs.Pieces.{put-then}
 use Rattle.frames.specs.Reply.{answerTo}
 use Rattle.frames.proofs.Claims.{answer-short}
 use Rattle.sandline.proofs.step.put_line.Statement.{statement}

@@ -16,7 +16,7 @@ use Rattle.texts.specs.Put.{put}
 use Rattle.lines.specs.Turns.{line}
 use Rattle.replies.specs.Reply.{pointsText}
 use Rattle.replies.specs.Room.{room}
-use Rattle.replies.proofs.Behind.{put-then}
+use Rattle.texts.proofs.Pieces.{put-then}
 use Rattle.replies.proofs.Parts.{at-most-two}
 use Rattle.walk_reply.specs.Reply.{walkReply}
 use Rattle.survey.specs.Survey.{outlineOf, outlined, twoLines, threeLines}

@@ -15,7 +15,7 @@ use Rattle.texts.specs.Put.{put}
 use Rattle.lines.specs.Turns.{line}
 use Rattle.replies.specs.Reply.{pointsText}
 use Rattle.replies.specs.Room.{room, numberRoom}
-use Rattle.replies.proofs.Behind.{put-then}
+use Rattle.texts.proofs.Pieces.{put-then}
 use Rattle.simplify_reply.specs.Reply.{simplifyReply}
 use Rattle.simplify_reply.proofs.Room.{kept-fit, kept-part}
 use Rattle.reduce_reply.specs.Reply.{numbersReply}
