@@ -1,14 +1,14 @@
 // Where a walk of a chart may begin.
 ghost use mathlib.Core.Path.{_≡_};
 ghost use Prim.Native.Nat.{_<_};
-ghost use Rattle.bitmap.specs.Pixels.{Good};
+ghost use Rattle.chart.specs.Pixels.{Good};
 ghost use lib.IntN.{pos};
-ghost use Rattle.bitmap.specs.declared.Start.the-variants.{At};
-ghost use Rattle.bitmap.specs.Start.{firstStart, firstInRow, columnOf, FirstBit};
-use bitmap::Chart;
-use bitmap::Start;
-use pixels::bad_chart;
-use pixels::row_bytes;
+ghost use Rattle.chart.specs.declared.Start.the-variants.{At};
+ghost use Rattle.chart.specs.Start.{firstStart, firstInRow, columnOf, FirstBit};
+use crate::Chart;
+use crate::Start;
+use crate::pixels::bad_chart;
+use crate::pixels::row_bytes;
 use point::PointI32;
 use point::Refusal;
 

@@ -2,12 +2,12 @@
 ghost use mathlib.Core.Path.{_≡_};
 ghost use Prim.Native.Nat.{_≤_, _<_, _-_, _/_, _^_};
 ghost use Rattle.laws.specs.Bits.{setBits};
-ghost use Rattle.bitmap.specs.Pixels.{Good};
-ghost use Rattle.bitmap.specs.Area.{areaOf, rowArea};
-use bitmap::Cells;
-use bitmap::Chart;
-use pixels::bad_chart;
-use pixels::row_bytes;
+ghost use Rattle.chart.specs.Pixels.{Good};
+ghost use Rattle.chart.specs.Area.{areaOf, rowArea};
+use crate::Cells;
+use crate::Chart;
+use crate::pixels::bad_chart;
+use crate::pixels::row_bytes;
 use point::Refusal;
 
 // How many pixels are set.

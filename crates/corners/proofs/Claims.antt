@@ -8,8 +8,8 @@ use native.Mathlib.Omega.{arith}
 use lib.IntN.{ℤ}
 use lib.ListN.{length}
 use denote.Ref.{now}
-use Rattle.refusals.specs.declared.Answer.the-variants.{Refused}
-use Rattle.refusals.specs.declared.Refusal.{Refusal}
+use Rattle.point.specs.declared.refusal.Answer.the-variants.{Refused}
+use Rattle.point.specs.declared.refusal.Refusal.{Refusal}
 use Rattle.corners.specs.declared.Pair.{Pair}
 use Rattle.corners.specs.Corners.{seen, cornersOf}
 use Rattle.corners.specs.Calls.{Outcome, refusal, outcome, findCornersOf}

@@ -9,12 +9,12 @@ use lib.ListN.{length}
 use lib.Signed.{leZ}
 use Rattle.laws.specs.Lists.{over}
 use Rattle.point.specs.Limits.{tooMany, badPoints}
-use Rattle.refusals.specs.Refusals.{refuse_when_or_}
-use Rattle.refusals.specs.declared.Answer.{Answer}
-use Rattle.refusals.specs.declared.Answer.the-variants.{Done, Refused}
-use Rattle.refusals.specs.declared.Refusal.{Refusal}
-use Rattle.refusals.specs.declared.Refusal.the-variants.{TooMany, BadPoint, TooFew, BadSettings, NoRoom}
-use Rattle.outline.specs.Points.{count}
+use Rattle.point.specs.Refusals.{refuse_when_or_}
+use Rattle.point.specs.declared.refusal.Answer.{Answer}
+use Rattle.point.specs.declared.refusal.Answer.the-variants.{Done, Refused}
+use Rattle.point.specs.declared.refusal.Refusal.{Refusal}
+use Rattle.point.specs.declared.refusal.Refusal.the-variants.{TooMany, BadPoint, TooFew, BadSettings, NoRoom}
+use Rattle.point.specs.Points.{count}
 use Rattle.corners.specs.declared.Pair.{Pair}
 use Rattle.corners.specs.Corners.{seen, cornersOf}
 

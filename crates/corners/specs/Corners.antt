@@ -8,7 +8,7 @@ use lib.IntN.{ℤ, pos, natAbs, _+ℤ_, _-ℤ_, _*ℤ_}
 use lib.Signed.{leZ}
 use Rattle.laws.specs.If.{if_then_else_}
 use Rattle.point.specs.declared.PointI32.{PointI32}
-use Rattle.outline.specs.Points.{count, pointAt}
+use Rattle.point.specs.Points.{count, pointAt}
 use Rattle.util.specs.Area.{crossOf}
 use Rattle.corners.specs.declared.Pair.{Pair}
 

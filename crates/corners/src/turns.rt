@@ -17,9 +17,9 @@ pub(crate) fn is_sharp(points: &[i32], pair: Pair, m: usize, i: usize) -> bool
     requires { ⌜ (badPoints (now points) ≡ false) × Moderate pair × (i < m) ⌝ }
     ensures { λ r. ⌜ r ≡ sharp pair (into (now (points .entry)) m i) (outOf (now (points .entry)) m i) ⌝ }
 {
-    let at = outline::point_at(points, i);
-    let v1 = vector(outline::point_at(points, before(m, i)), at);
-    let v2 = vector(at, outline::point_at(points, behind(m, i)));
+    let at = point::point_at(points, i);
+    let v1 = vector(point::point_at(points, before(m, i)), at);
+    let v2 = vector(at, point::point_at(points, behind(m, i)));
     sharp(pair, v1, v2)
 }
 

@@ -8,10 +8,10 @@ use lib.Ieee.{Float, binary64, ofInt, ofBits, div}
 use lib.IntN.{ℤ, pos}
 use lib.ListN.{length, take, drop, replicate, length-replicate}
 use Rattle.point.specs.declared.PointI32.{PointI32}
-use Rattle.bitmap.specs.declared.Chart.{Chart}
-use Rattle.walks.specs.Walk.{walked}
-use Rattle.simplify.specs.Calls.{simplifyOf}
-use Rattle.reduce.specs.Calls.{reduceOf, numberedOf}
+use Rattle.chart.specs.declared.Chart.{Chart}
+use Rattle.walker.specs.Walk.{walked}
+use Rattle.simplify.specs.Simplify.{simplifyOf}
+use Rattle.reduce.specs.Reduce.{reduceOf, numberedOf}
 use Rattle.texts.specs.Put.{Outcome, put}
 use Rattle.requests.specs.Frame.{Request, requestIn}
 use Rattle.requests.specs.Handed.{handed}
@@ -19,12 +19,10 @@ use Rattle.requests.specs.declared.Asked.{Asked}
 use Rattle.requests.specs.declared.Asked.the-variants as Asked
 use Rattle.requests.proofs.Points.{rest-is}
 use Rattle.requests.proofs.Claims.{said, valuesIn, bytesBefore, Told, told}
-use Rattle.replies.proofs.Parts.{from-start}
-use Rattle.replies.specs.Room.{room, marks, numberRoom}
-use Rattle.walk_reply.specs.Reply.{walkReply}
-use Rattle.simplify_reply.specs.Reply.{simplifyReply}
-use Rattle.reduce_reply.specs.Reply.{reduceReply, numbersReply}
-use Rattle.frames.specs.Reply.{badReply, replyTo}
+use Rattle.frames.proofs.Parts.{from-start}
+use Rattle.frames.specs.Room.{room, marks, numberRoom}
+use Rattle.frames.specs.Calls.{walkReply, simplifyReply, reduceReply, numbersReply}
+use Rattle.frames.specs.Answer.{badReply, replyTo}
 
 -- the literal 16.0 of the code
 sixteen-is : ofBits binary64 0x4030000000000000 ≡ ofInt binary64 (pos 16)

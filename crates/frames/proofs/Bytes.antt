@@ -10,14 +10,14 @@ use lib.ListN.{length, take, drop, replicate, length-replicate}
 use lib.Seq.{take-append-seam}
 use borrow.Author.Tests.{leb-true, leb-false, lt-ltb}
 use Rattle.laws.specs.If.{if_then_else_}
-use Rattle.pairs.specs.Into as Into
-use Rattle.pairs.specs.Into.{readInto}
-use Rattle.pairs.specs.Pairs.{bytesOf}
-use Rattle.pairs.specs.declared.Read.{Read}
-use Rattle.pairs.specs.declared.Read.the-variants as Read
+use Rattle.words.specs.Into as Into
+use Rattle.words.specs.Into.{readInto}
+use Rattle.words.specs.Pairs.{bytesOf}
+use Rattle.words.specs.declared.bytes.Read.{Read}
+use Rattle.words.specs.declared.bytes.Read.the-variants as Read
 use Rattle.texts.specs.Put.{Outcome, put}
 use Rattle.requests.specs.Frame.{requestIn}
-use Rattle.frames.specs.Reply.{badReply, replyTo, bytesReply, answerTo}
+use Rattle.frames.specs.Answer.{badReply, replyTo, bytesReply, answerTo}
 
 abbrev isNot : Read → ℕ
 isNot (Read.Is n) = 0

@@ -8,9 +8,9 @@ use lib.Dec.{ltb}
 use lib.ListN.{length}
 use borrow.Author.Tests.{lt-ltb}
 use Rattle.laws.specs.If.{if-cases}
-use Rattle.pairs.specs.Into.{prepend}
-use Rattle.pairs.specs.Pairs.{pairOf, bytesOf}
-use Rattle.frames.specs.Reply.{badReply, bytesReply, answerTo}
+use Rattle.words.specs.Into.{prepend}
+use Rattle.words.specs.Pairs.{pairOf, bytesOf}
+use Rattle.frames.specs.Answer.{badReply, bytesReply, answerTo}
 
 -- a byte has two digits
 abbrev Digits : Option (List ℕ) → ℕ → Type 0

@@ -2,9 +2,10 @@
 ghost use mathlib.Core.Path.{_≡_};
 ghost use Rattle.texts.specs.Put.{put};
 ghost use Rattle.requests.specs.Frame.{requestIn};
-ghost use Rattle.frames.specs.Reply.{answerTo, replyTo, badReply};
-use pairs::Read;
+ghost use Rattle.frames.specs.Answer.{answerTo, replyTo, badReply};
+use crate::calls;
 use requests::Asked;
+use words::Read;
 
 // The most bytes of a frame, and the most values of its points.
 const MOST: usize = 16384;
@@ -17,7 +18,7 @@ pub fn answer(line: &[u8], out: &mut [u8], at: usize) -> usize
     ensures { λ r. ⌜ record { next = r; out = now (out .exit) } ≡ put (answerTo (now (line .entry))) (now (out .entry)) at ⌝ }
 {
     let mut frame = [0u8; MOST];
-    match pairs::read_bytes(line, &mut frame) {
+    match words::read_bytes(line, &mut frame) {
         Read::Is(n) => reply(&frame[0..n], out, at),
         Read::Not => bad(out, at),
     }
@@ -31,18 +32,13 @@ fn reply(frame: &[u8], out: &mut [u8], at: usize) -> usize
     let mut points = [0i32; VALUES];
     match requests::request(frame, &mut points) {
         Asked::Walk(clockwise, chart, start) => {
-            walk_reply::put_walk(chart, &frame[10..], start, clockwise, out, at)
+            calls::put_walk(chart, &frame[10..], start, clockwise, out, at)
         }
-        Asked::Simplify(clockwise, n) => simplify_reply::put_simplified(
-            &points[0..n],
-            clockwise,
-            out,
-            at,
-        ),
+        Asked::Simplify(clockwise, n) => calls::put_simplified(&points[0..n], clockwise, out, at),
         Asked::Reduce(tolerance, n) => {
-            reduce_reply::put_reduced(&points[0..n], tolerance as f64 / 16.0, out, at)
+            calls::put_reduced(&points[0..n], tolerance as f64 / 16.0, out, at)
         }
-        Asked::Numbers(n) => reduce_reply::put_numbered(&points[0..n], out, at),
+        Asked::Numbers(n) => calls::put_numbered(&points[0..n], out, at),
         Asked::NoFrame => bad(out, at),
     }
 }

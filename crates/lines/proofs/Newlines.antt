@@ -9,7 +9,7 @@ use lib.Dec.{eqb}
 use lib.ListN.{length, take, drop}
 use lib.Seq.{take-all}
 use borrow.Author.Tests.{eqb-true}
-use Rattle.line_words.specs.Split.{upTo}
+use Rattle.words.specs.Line.{upTo}
 use Rattle.lines.specs.If.{if_then_else_}
 use Rattle.lines.specs.Runs.{linesOf, wholeLines}
 

@@ -4,7 +4,7 @@ use mathlib.Core.List.{[], _∷_}
 use mathlib.Core.Path.{_≡_, refl}
 use Prim.Native.Nat.{ℕ}
 use Rattle.texts.specs.Put.{put}
-use Rattle.line_words.specs.Split.{upTo}
+use Rattle.words.specs.Line.{upTo}
 use Rattle.lines.specs.Reader.{freshReader, fedReader, refill, taken}
 use Rattle.lines.specs.Turns.{nextTurn, stepOf}
 use Rattle.lines.specs.Runs.{linesOf, wholeLines, Machine, after, started}

@@ -5,7 +5,7 @@ use mathlib.Core.List.{List, _++_}
 use lib.Dec.{ltb, eqb}
 use lib.ListN.{length, take, drop}
 use Rattle.lines.specs.If.{if_then_else_}
-use Rattle.line_words.specs.Split.{firstFrom}
+use Rattle.words.specs.Line.{firstFrom}
 use Rattle.lines.specs.declared.reader.Reader.{Reader}
 use Rattle.lines.specs.declared.reader.Taken.{Taken}
 use Rattle.lines.specs.declared.reader.Taken.the-variants.{Line, More, End}

@@ -4,7 +4,7 @@ use Prim.Native.Nat.{ℕ, zero, suc, _+_, _-_, min}
 use mathlib.Core.List.{List, [], _∷_, _++_}
 use lib.Dec.{ltb, eqb}
 use lib.ListN.{length, take, drop}
-use Rattle.line_words.specs.Split.{onto}
+use Rattle.words.specs.Line.{onto}
 use Rattle.lines.specs.If.{if_then_else_}
 use Rattle.lines.specs.Turns.{Step, begun, fedState, line, stepOf}
 use Rattle.lines.specs.declared.turns.State.{State}

@@ -7,9 +7,6 @@ mod reader;
 mod refill;
 mod turns;
 
-pub use line_words::find;
-pub use line_words::word;
-pub use line_words::words;
 pub use reader::Reader;
 pub use turns::State;
 pub use turns::Turn;
@@ -17,3 +14,6 @@ pub use turns::answered;
 pub use turns::begin;
 pub use turns::fed;
 pub use turns::next;
+pub use words::find;
+pub use words::word;
+pub use words::words;

@@ -3,7 +3,7 @@ ghost use mathlib.Core.Path.{_≡_};
 ghost use Prim.Native.Nat.{_≤_, min, max};
 ghost use Rattle.lines.specs.Reader.{freshReader, fedReader, inside, lineEnds, inputEnds, taken};
 use crate::refill::make_room;
-use line_words::find;
+use words::find;
 
 // The bytes of a buffer from `start` to `end` were read and are not handed out yet, and those up to
 // `seen` hold no newline. `over`: the input has ended. `long`: inside a line that the buffer cannot

@@ -10,7 +10,7 @@ use lib.ListN.{getD, replicate, replicate-append-replicate}
 use Rattle.laws.specs.Order.{AtLeastZero}
 use Rattle.laws.specs.Least.{least, least-at-least-zero, least-cases}
 use Rattle.split.specs.Tree.{Tree, leaf, node, size, cut, down}
-use Rattle.keeping.specs.Kept.{mark}
+use Rattle.reduce.specs.Kept.{mark}
 use Rattle.split.proofs.Cuts.{cut-kept, cut-dropped}
 use Rattle.nesting.proofs.Tolerances.{below-least}
 use Rattle.split.proofs.Trees.{Each}

@@ -20,17 +20,17 @@ use Rattle.laws.specs.Ranges.{between-below}
 use Rattle.point.specs.Limits.{tooMany, badPoints, badSqTolerance, within}
 use Rattle.point.proofs.Claims.{coordinates-fit}
 use Rattle.split.specs.Distance.{sqSegDist}
-use Rattle.spans.specs.Small.{Small}
+use Rattle.split.specs.Small.{Small}
 use Rattle.split.specs.Tree.{count, pointAt, distanceIn, farthest, framed, spanTree, tree, cut, down, marksOf, numbersOf}
-use Rattle.spans.proofs.Distances.{distance-below, distance-nonneg}
+use Rattle.split.proofs.Distances.{distance-below, distance-nonneg}
 use Rattle.split.proofs.Frames.{framed-many, framed-one}
 use Rattle.nesting.proofs.Tolerances.{lower-keeps}
 use Rattle.split.proofs.Trees.{Each, each-map, split-inside}
 use Rattle.nesting.proofs.Farthest.{SmallSpan, at-least, split-greatest, split-earliest, span-distances}
 use Rattle.split.proofs.Claims.{a-mark-for-each-point, a-number-for-each-point}
-use Rattle.keeping.specs.Calls.{shortFor}
-use Rattle.keeping.specs.Kept.{marksBy, mark}
-use Rattle.reduce.specs.Calls.{douglasPeuckerOf, zoomOf}
+use Rattle.reduce.specs.Keep.{shortFor}
+use Rattle.reduce.specs.Kept.{marksBy, mark}
+use Rattle.reduce.specs.Reduce.{douglasPeuckerOf, zoomOf}
 use Rattle.nesting.proofs.Ends.{by-ends, by-end}
 use Rattle.nesting.proofs.Kept.{marked, kept-by-number, down-any, AllIn, all-at, Bit, cut-bits}
 use Rattle.nesting.proofs.Frames.{framed-map, framed-all}

@@ -16,21 +16,20 @@ use lib.Seq.{getD-at}
 use borrow.Author.Tests.{ne-eqb, le-ltb}
 use Rattle.laws.specs.If.{if_then_else_}
 use Rattle.laws.specs.Lists.{over, getD-over-front, take-over-all}
-use Rattle.refusals.specs.Refusals.{countOf}
-use Rattle.refusals.specs.declared.Answer.the-variants.{Done}
+use Rattle.point.specs.Refusals.{countOf}
+use Rattle.point.specs.declared.refusal.Answer.the-variants.{Done}
 use Rattle.point.specs.Limits.{tooMany, badPoints, badSqTolerance}
-use Rattle.point.specs.Points.{flat, points}
+use Rattle.point.specs.Points.{flat, points, count, pointAt}
 use Rattle.point.specs.declared.PointI32.{PointI32}
-use Rattle.outline.specs.Points.{count, pointAt}
-use Rattle.outline.proofs.Flat.{length-points, length-flat, points-flat}
+use Rattle.point.proofs.Flat.{length-points, length-flat, points-flat}
 use Rattle.split.specs.Distance.{sqSegDist}
 use Rattle.split.specs.Tree.{tree, down, marksOf, numbersOf}
 use Rattle.split.proofs.Claims.{a-mark-for-each-point, a-number-for-each-point}
 use Rattle.split.proofs.Frames.{framed-many}
-use Rattle.keeping.specs.Kept.{select, kept, mark}
-use Rattle.keeping.proofs.Select.{kept-many}
-use Rattle.douglas_peucker.specs.Calls.{split}
-use Rattle.reduce.specs.Calls.{Marked, Numbered, numberedOf, douglasPeuckerOf}
+use Rattle.reduce.specs.Kept.{select, kept, mark}
+use Rattle.reduce.proofs.Select.{kept-many}
+use Rattle.reduce.specs.DouglasPeucker.{split}
+use Rattle.reduce.specs.Reduce.{Marked, Numbered, numberedOf, douglasPeuckerOf}
 use Rattle.nesting.proofs.Kept.{marked}
 use Rattle.nesting.proofs.Nesting.{Near, in-i32, below-infinity, is-kept, kept-exactly-below-its-number, numbers-decide-in-range, zooms-nest-in-range, dropped-points-are-near-in-range}
 use Rattle.nesting.proofs.Positions.{positions, those, Thinned, front, by-position, last-position, those-append, selects, narrowed}

@@ -8,12 +8,11 @@ use native.Mathlib.Omega.{arith}
 use lib.IntN.{ℤ, pos}
 use lib.ListN.{length, getD}
 use Rattle.laws.specs.If.{if_then_else_}
-use Rattle.point.specs.Points.{points}
+use Rattle.point.specs.Points.{points, count, pointAt}
 use Rattle.point.specs.declared.PointI32.{PointI32}
-use Rattle.outline.specs.Points.{count, pointAt}
-use Rattle.outline.proofs.Flat.{length-points}
-use Rattle.keeping.specs.Kept.{select, mark}
-use Rattle.keeping.proofs.Select.{selected, unselected}
+use Rattle.point.proofs.Flat.{length-points}
+use Rattle.reduce.specs.Kept.{select, mark}
+use Rattle.reduce.proofs.Select.{selected, unselected}
 
 -- ---- the words
 

@@ -6,7 +6,7 @@ use mathlib.Core.Path.{_≡_, refl, sym, _∙_}
 use lib.Ieee.{Float, nan, inf, fin, lt}
 use Rattle.laws.specs.Order.{AtLeastZero, ge-transitive, lt-le-transitive, le-lt-transitive}
 use Rattle.laws.specs.Least.{least, least-cases, lt-least}
-use Rattle.spans.proofs.Distances.{under-all}
+use Rattle.split.proofs.Distances.{under-all}
 
 data Kind (t : Float) : Type 0 where
   no-number : ((x : Float) → lt t x ≡ false) → Kind t

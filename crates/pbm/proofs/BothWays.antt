@@ -9,9 +9,9 @@ use mathlib.Core.Path.{_≡_, refl, sym, ap, _∙_}
 use lib.ListN.{length, take, drop}
 use lib.Seq.{drop-append-seam}
 use Rattle.laws.specs.Lists.{over, take-over-all}
-use Rattle.refusals.specs.declared.Answer.the-variants.{Done}
-use Rattle.bitmap.specs.Pixels.{rowBytes, cell, one, badChart}
-use Rattle.bitmap.specs.declared.Chart.{Chart}
+use Rattle.point.specs.declared.refusal.Answer.the-variants.{Done}
+use Rattle.chart.specs.Pixels.{rowBytes, cell, one, badChart}
+use Rattle.chart.specs.declared.Chart.{Chart}
 use Rattle.texts.specs.Text.{naturalText}
 use Rattle.pbm.specs.Header.{Header, headerIn}
 use Rattle.pbm.specs.Raster.{Image, imageIn}

@@ -13,10 +13,10 @@ use lib.Pow.{shr-shr}
 use lib.Seq.{getD-at}
 use borrow.Author.Tests.{lt-ltb, le-ltb, ltb-true}
 use Rattle.laws.specs.Lists.{over, over-push}
-use Rattle.bitmap.specs.Pixels.{rowBytes, bitOf, cell, one}
-use Rattle.bitmap.specs.declared.Chart.{Chart}
-use Rattle.bitmap.proofs.Digits.{digit}
-use Rattle.bitmap.proofs.Places.{one-le}
+use Rattle.chart.specs.Pixels.{rowBytes, bitOf, cell, one}
+use Rattle.chart.specs.declared.Chart.{Chart}
+use Rattle.chart.proofs.Digits.{digit}
+use Rattle.chart.proofs.Places.{one-le}
 use Rattle.pbm.specs.Bytes.{packed, byteAt, listed, chartBytes}
 use Rattle.pbm.proofs.RowByRow.{place-column, place-row, place-below}
 

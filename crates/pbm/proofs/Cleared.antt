@@ -8,8 +8,8 @@ use native.Mathlib.Nat.{add-zero, add-suc, mul-suc, mul-le-mul-left, mod-eq-of-l
 use native.Mathlib.Omega.{arith}
 use lib.ListN.{length, drop, getD, set}
 use lib.Seq.{paste, paste-suc, drop-paste, getD-drop, set-getD}
-use Rattle.bitmap.specs.Pixels.{side, rowBytes, cell}
-use Rattle.bitmap.specs.declared.Chart.{Chart}
+use Rattle.chart.specs.Pixels.{side, rowBytes, cell}
+use Rattle.chart.specs.declared.Chart.{Chart}
 use Rattle.pbm.specs.Bytes.{chartBytes}
 use Rattle.pbm.proofs.Bytes.{length-chartBytes, chartBytes-at}
 use Rattle.pbm.proofs.Copied.{wide-within, byte-whole, byte-last}

@@ -12,10 +12,10 @@ use mir.Val.{Fits}
 use lib.Dec.{ltb}
 use lib.ListN.{getD}
 use borrow.Author.Tests.{lt-ltb, le-ltb}
-use Rattle.bitmap.specs.Pixels.{side, rowBytes, bitOf, cell}
-use Rattle.bitmap.specs.declared.Chart.{Chart}
-use Rattle.bitmap.proofs.Rows.{cell-byte}
-use Rattle.bitmap.proofs.Sizes.{side-within, bytes-fit}
+use Rattle.chart.specs.Pixels.{side, rowBytes, bitOf, cell}
+use Rattle.chart.specs.declared.Chart.{Chart}
+use Rattle.chart.proofs.Rows.{cell-byte}
+use Rattle.chart.proofs.Sizes.{side-within, bytes-fit}
 use Rattle.pbm.specs.Bytes.{packed, byteAt}
 use Rattle.pbm.proofs.Bytes.{packed-padded, packed-bits, byteAt-is}
 

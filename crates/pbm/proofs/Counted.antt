@@ -7,7 +7,7 @@ use native.Mathlib.Numerals.{add-one}
 use native.Mathlib.Omega.{arith}
 use lib.Dec.{ltb}
 use borrow.Author.Tests.{ltb-true, ltb-false}
-use Rattle.bitmap.specs.Pixels.{side, rowBytes}
+use Rattle.chart.specs.Pixels.{side, rowBytes}
 use Rattle.pbm.proofs.Copied.{place-in-row, next-column, next-row}
 
 -- those of the rows above byte i, and of its own row eight in each byte

@@ -11,8 +11,8 @@ use lib.Seq.{append-snoc, sets-eq}
 use borrow.Author.Tests.{ltb-false}
 use Rattle.laws.specs.If.{if_then_else_}
 use Rattle.laws.specs.Lists.{over, length-over}
-use Rattle.bitmap.specs.Pixels.{side, rowBytes, cell}
-use Rattle.bitmap.specs.declared.Chart.{Chart}
+use Rattle.chart.specs.Pixels.{side, rowBytes, cell}
+use Rattle.chart.specs.declared.Chart.{Chart}
 use Rattle.texts.specs.Text.{glyphOf, decimalDigits, naturalText}
 use Rattle.texts.specs.Put.{Outcome, put}
 use Rattle.texts.proofs.Pieces.{put-fits, put-then, second-fits}

@@ -12,9 +12,9 @@ use mir.Syntax.{w64}
 use mir.Val.{Fits}
 use borrow.Author.Tests.{lt-ltb, le-ltb, ltb-true, ltb-false, not-false}
 use Rattle.laws.specs.Joined.{both-false}
-use Rattle.bitmap.specs.Pixels.{rowBytes, side, cell}
-use Rattle.bitmap.specs.declared.Chart.{Chart}
-use Rattle.bitmap.proofs.Sizes.{side-within}
+use Rattle.chart.specs.Pixels.{rowBytes, side, cell}
+use Rattle.chart.specs.declared.Chart.{Chart}
+use Rattle.chart.proofs.Sizes.{side-within}
 use Rattle.pbm.specs.Header.{Header, rasterIn}
 use Rattle.pbm.specs.Raster.{Digits, rawIn, digitsIn, plainIn, imageIn}
 use Rattle.pbm.specs.inside.Places.{behindDigits, behindImage, hasImage, setOf, imageOf, bitsOf, whole}

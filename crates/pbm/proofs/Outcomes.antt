@@ -9,9 +9,9 @@ use lib.Dec.{leb}
 use lib.ListN.{length}
 use borrow.Author.Tests.{lt-ltb, le-ltb, leb-true, leb-false}
 use Rattle.laws.specs.Lists.{over}
-use Rattle.refusals.specs.declared.Refusal.the-variants.{BadSize, NoRoom, BadPicture}
-use Rattle.bitmap.specs.Pixels.{rowBytes, side}
-use Rattle.bitmap.specs.declared.Chart.{Chart}
+use Rattle.point.specs.declared.refusal.Refusal.the-variants.{BadSize, NoRoom, BadPicture}
+use Rattle.chart.specs.Pixels.{rowBytes, side}
+use Rattle.chart.specs.declared.Chart.{Chart}
 use Rattle.pbm.specs.Header.{Header, headerIn}
 use Rattle.pbm.specs.Raster.{Image, imageIn}
 use Rattle.pbm.specs.Bytes.{chartBytes}

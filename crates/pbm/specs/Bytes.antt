@@ -3,8 +3,8 @@ use Prim.Native.Nat.{ℕ, zero, suc, _+_, _*_, _/_, _%_}
 use mathlib.Core.Bool.{Bool, _&&_}
 use mathlib.Core.List.{List, [], _∷_, _++_}
 use lib.Dec.{ltb}
-use Rattle.bitmap.specs.Pixels.{rowBytes, one}
-use Rattle.bitmap.specs.declared.Chart.{Chart}
+use Rattle.chart.specs.Pixels.{rowBytes, one}
+use Rattle.chart.specs.declared.Chart.{Chart}
 
 -- n pixels as one number, "the leftmost the highest"
 unfoldable pub packed : ℕ → (ℕ → Bool) → ℕ

@@ -6,13 +6,13 @@ use mathlib.Core.Option.{Option, some, none}
 use lib.Dec.{ltb}
 use lib.ListN.{length}
 use Rattle.laws.specs.Lists.{over}
-use Rattle.refusals.specs.Refusals.{refuse_when_or_}
-use Rattle.refusals.specs.declared.Answer.{Answer}
-use Rattle.refusals.specs.declared.Answer.the-variants.{Done, Refused}
-use Rattle.refusals.specs.declared.Refusal.{Refusal}
-use Rattle.refusals.specs.declared.Refusal.the-variants.{BadSize, NoRoom, BadPicture}
-use Rattle.bitmap.specs.Pixels.{rowBytes, side, cell, badChart}
-use Rattle.bitmap.specs.declared.Chart.{Chart}
+use Rattle.point.specs.Refusals.{refuse_when_or_}
+use Rattle.point.specs.declared.refusal.Answer.{Answer}
+use Rattle.point.specs.declared.refusal.Answer.the-variants.{Done, Refused}
+use Rattle.point.specs.declared.refusal.Refusal.{Refusal}
+use Rattle.point.specs.declared.refusal.Refusal.the-variants.{BadSize, NoRoom, BadPicture}
+use Rattle.chart.specs.Pixels.{rowBytes, side, cell, badChart}
+use Rattle.chart.specs.declared.Chart.{Chart}
 use Rattle.texts.specs.Text.{naturalText}
 use Rattle.pbm.specs.Header.{Header, headerIn}
 use Rattle.pbm.specs.Raster.{Image, imageIn}

@@ -3,10 +3,10 @@ use mathlib.Core.List.{[], _∷_}
 use mathlib.Core.Option.{some, none}
 use mathlib.Core.Path.{_≡_, refl}
 use mathlib.Core.Bool.{true, false}
-use Rattle.refusals.specs.declared.Refusal.the-variants.{BadSize, NoRoom, BadPicture}
-use Rattle.refusals.specs.declared.Answer.the-variants.{Done}
+use Rattle.point.specs.declared.refusal.Refusal.the-variants.{BadSize, NoRoom, BadPicture}
+use Rattle.point.specs.declared.refusal.Answer.the-variants.{Done}
 use Rattle.laws.specs.Lists.{over}
-use Rattle.bitmap.specs.Pixels.{badChart, side, cell}
+use Rattle.chart.specs.Pixels.{badChart, side, cell}
 use Rattle.texts.specs.Text.{decimalDigits}
 use Rattle.pbm.specs.Header.{white, lineEnd, hash, digit}
 use Rattle.pbm.specs.Calls.{readOf, writtenOf}

@@ -5,7 +5,7 @@ use mathlib.Core.Bool.{Bool, true, false, not, _&&_, _||_}
 use mathlib.Core.List.{List, [], _∷_}
 use mathlib.Core.Option.{Option, some, none}
 use lib.Dec.{leb, eqb}
-use Rattle.bitmap.specs.declared.Chart.{Chart}
+use Rattle.chart.specs.declared.Chart.{Chart}
 
 -- ---- bytes
 

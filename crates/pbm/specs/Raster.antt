@@ -5,8 +5,8 @@ use mathlib.Core.List.{List, [], _∷_}
 use mathlib.Core.Option.{Option, some, none}
 use lib.Dec.{ltb, eqb}
 use lib.ListN.{length, getD, drop}
-use Rattle.bitmap.specs.Pixels.{rowBytes, cell}
-use Rattle.bitmap.specs.declared.Chart.{Chart}
+use Rattle.chart.specs.Pixels.{rowBytes, cell}
+use Rattle.chart.specs.declared.Chart.{Chart}
 use Rattle.pbm.specs.Header.{white, Header, rasterIn}
 
 -- whether the pixel in column x of row y is set, and what is left behind the image

@@ -8,7 +8,7 @@ use crate::decimal::Size;
 use crate::decimal::read_size;
 use crate::letters::hash;
 use crate::letters::white;
-use bitmap::Chart;
+use chart::Chart;
 
 // A header: of which kind, the sizes, one out of range standing for all such, and the place behind it.
 pub(crate) struct Header {

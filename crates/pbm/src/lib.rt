@@ -14,9 +14,9 @@ mod write;
 
 ghost use mathlib.Core.Path.{_≡_};
 ghost use Rattle.pbm.specs.Answers.{pictureNumber};
-use bitmap::Chart;
+use chart::Chart;
+use point::Refusal;
 pub use read::read_pbm;
-use refusals::Refusal;
 pub use write::write_pbm;
 
 // What reading a picture answers: its chart, with how many bytes of the file its image took, or why there

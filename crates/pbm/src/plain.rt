@@ -6,14 +6,14 @@ ghost use mathlib.Core.Path.{_≡_};
 ghost use lib.Dec.{eqb};
 ghost use lib.ListN.{length, getD, drop};
 ghost use Rattle.laws.specs.Lists.{over};
-ghost use Rattle.bitmap.specs.Pixels.{rowBytes, side};
+ghost use Rattle.chart.specs.Pixels.{rowBytes, side};
 ghost use Rattle.pbm.specs.Bytes.{packed, chartBytes};
 ghost use Rattle.pbm.specs.Raster.{digitsIn};
 ghost use Rattle.pbm.specs.inside.Places.{placeOf, behindDigits, bitsOf, whole};
 use crate::header::Place;
 use crate::letters::white;
 use crate::raw::all_bytes;
-use bitmap::Chart;
+use chart::Chart;
 
 // Some pixels of one byte, and the place behind the last of them.
 struct Gathered {

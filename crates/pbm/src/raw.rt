@@ -4,9 +4,9 @@ ghost use mathlib.Core.Bool.{true};
 ghost use mathlib.Core.List.{_++_};
 ghost use mathlib.Core.Path.{_≡_};
 ghost use lib.ListN.{length, take, drop};
-ghost use Rattle.bitmap.specs.Pixels.{rowBytes, side, cell};
+ghost use Rattle.chart.specs.Pixels.{rowBytes, side, cell};
 ghost use Rattle.pbm.specs.Bytes.{chartBytes};
-use bitmap::Chart;
+use chart::Chart;
 
 // How many bytes a chart takes.
 pub(crate) fn all_bytes(chart: Chart) -> usize

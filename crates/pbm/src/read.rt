@@ -4,7 +4,7 @@ ghost use mathlib.Core.Bool.{true, not, _||_};
 ghost use mathlib.Core.Path.{_≡_};
 ghost use lib.ListN.{length, drop};
 ghost use Rattle.laws.specs.Lists.{over};
-ghost use Rattle.bitmap.specs.Pixels.{rowBytes, side};
+ghost use Rattle.chart.specs.Pixels.{rowBytes, side};
 ghost use Rattle.pbm.specs.Bytes.{chartBytes};
 ghost use Rattle.pbm.specs.Calls.{readBehind, readOf};
 ghost use Rattle.pbm.specs.inside.Places.{placeOf, headerAt, imageOf, behindImage, hasImage, setOf};
@@ -18,8 +18,8 @@ use crate::plain::digits_end;
 use crate::plain::pack_rows;
 use crate::raw::all_bytes;
 use crate::raw::copy_rows;
-use bitmap::Chart;
-use refusals::Refusal;
+use chart::Chart;
+use point::Refusal;
 
 // Reads the picture at the start of `file` into `pixels`. All of it is judged before anything is written.
 pub fn read_pbm(file: &[u8], pixels: &mut [u8]) -> Picture

@@ -5,15 +5,15 @@ ghost use mathlib.Core.List.{[], _∷_, _++_};
 ghost use mathlib.Core.Path.{_≡_};
 ghost use lib.ListN.{length};
 ghost use Rattle.laws.specs.Lists.{over};
-ghost use Rattle.bitmap.specs.Pixels.{rowBytes, side};
+ghost use Rattle.chart.specs.Pixels.{rowBytes, side};
 ghost use Rattle.texts.specs.Put.{put};
 ghost use Rattle.texts.specs.Text.{naturalText};
 ghost use Rattle.pbm.specs.Calls.{headText, writtenOf};
 use crate::raw::all_bytes;
 use crate::raw::copy_rows;
-use bitmap::Chart;
-use refusals::Answer;
-use refusals::Refusal;
+use chart::Chart;
+use point::Answer;
+use point::Refusal;
 
 // Writes a chart to `out`: `P4`, newline, width, space, height, newline, and the rows with their padding
 // cleared. Counted are bytes.

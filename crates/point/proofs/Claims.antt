@@ -1,13 +1,19 @@
 -- What follows of the contracts, for their readers and their callers. Assumes nothing.
-use Prim.Native.Nat.{ℕ, zero, suc, _≤_, _%_}
+use mathlib.Core.Path.{_≡_, sym, ap, _∙_, refl, ap₂}
+use Prim.Native.Nat.{ℕ, zero, suc, _≤_, _%_, _+_, _*_}
 use mathlib.Core.Bool.{Bool, true, false, not, _||_}
 use mathlib.Core.List.{List, [], _∷_}
-use mathlib.Core.Path.{_≡_, refl, sym, ap, _∙_}
 use lib.Dec.{eqb}
 use lib.IntN.{ℤ, pos, natAbs}
-use lib.ListN.{length, getD}
+use lib.ListN.{length, getD, set}
 use borrow.Author.Tests.{eqb-true, not-false}
 use denote.Ref.{now}
+use mathlib.Core.Option.{Option, some, none}
+use native.Mathlib.Omega.{arith}
+use Rattle.point.specs.Refusals.{refusalNumber, numberOf, countOf}
+use Rattle.point.proofs.refusal.Refusal.number.Reads.{Post as Refusal-number}
+use Rattle.point.proofs.refusal.Answer.number.Reads.{Post as Answer-number}
+use Rattle.point.proofs.refusal.Answer.count.Reads.{Post as Answer-count}
 use Rattle.laws.specs.Integers.{range-true}
 use Rattle.laws.specs.Joined.{both-true, both-false}
 use Rattle.point.specs.Limits.{every, inRange, inRangeF64, badList, badPoints, badPointsF64, badTolerance, badSqTolerance, tooMany, placesFor}
@@ -19,6 +25,27 @@ use Rattle.point.proofs.limits.bad_points.Reads.{Post as Bad-points}
 use Rattle.point.proofs.limits.bad_points_f64.Reads.{Post as Bad-points-f64}
 use Rattle.point.proofs.limits.bad_tolerance.Reads.{Post as Bad-tolerance}
 use Rattle.point.proofs.limits.bad_sq_tolerance.Reads.{Post as Bad-sq-tolerance}
+use Rattle.point.specs.declared.PointI32.{PointI32}
+use Rattle.point.specs.Points.{pointAt, flat}
+use Rattle.point.proofs.list.point_at.Reads.{Post as Point-at}
+use Rattle.point.proofs.list.put.Reads.{Post as Put}
+use Rattle.laws.specs.Lists.{length-over}
+use Rattle.point.specs.declared.refusal.Answer.the-variants.{Refused}
+use Rattle.point.specs.declared.refusal.Refusal.{Refusal}
+use Rattle.point.proofs.Flat.{length-flat}
+use Rattle.point.specs.Outcomes.{Outcome, refusal, verdict, outcome}
+use Rattle.point.proofs.limits.judge.Reads.{Post as Judge}
+
+-- Each contract leaves no choice: of equal arguments it allows one result. `Post` is the contract itself, as Rattle reads it off the source.
+
+pub refusal-number-determined : (κs : _) (a a′ : _) (r r′ : _) (s s′ : _) → Refusal-number κs a r s → Refusal-number κs a′ r′ s′ → a .0 ≡ a′ .0 → r ≡ r′
+refusal-number-determined κs a a′ r r′ s s′ p q e = p ∙ ap refusalNumber e ∙ sym q
+
+pub answer-number-determined : (κs : _) (a a′ : _) (r r′ : _) (s s′ : _) → Answer-number κs a r s → Answer-number κs a′ r′ s′ → a .0 ≡ a′ .0 → r ≡ r′
+answer-number-determined κs a a′ r r′ s s′ p q e = p ∙ ap numberOf e ∙ sym q
+
+pub answer-count-determined : (κs : _) (a a′ : _) (r r′ : _) (s s′ : _) → Answer-count κs a r s → Answer-count κs a′ r′ s′ → a .0 ≡ a′ .0 → r ≡ r′
+answer-count-determined κs a a′ r r′ s s′ p q e = p ∙ ap countOf e ∙ sym q
 
 -- ---- each contract leaves no choice: of equal arguments it allows one result. `Post` is the contract itself, as Rattle reads it off the source.
 
@@ -77,3 +104,43 @@ in-range-abs v e = range-true 16382 16383 refl v e
 pub coordinates-fit : (xs : List ℤ) → badPoints xs ≡ false → (k : ℕ) → natAbs (getD xs k (pos 0)) ≤ 16383
 coordinates-fit xs good k =
     in-range-abs (getD xs k (pos 0)) (every-at inRange xs (pos 0) (all-fine inRange xs good) refl k)
+
+-- ---- each contract leaves no choice: of equal arguments it allows one answer, and one last content of the buffer. `Post` is the contract
+-- itself, as Rattle reads it off the source, at arguments `a`, a result `r` and parameters at exit `s`.
+
+pub point-at-determined : (κs : _) (a a′ : _) (r r′ : _) (s s′ : _) → Point-at κs a r s → Point-at κs a′ r′ s′ →
+    now (a .0) ≡ now (a′ .0) → a .1 .0 ≡ a′ .1 .0 → r ≡ r′
+point-at-determined κs a a′ r r′ s s′ p q points k = p ∙ ap₂ pointAt points k ∙ sym q
+
+stored : PointI32 → ℕ → List ℤ → List ℤ
+stored p k out = set (set out (k * 2) (p .x)) (k * 2 + 1) (p .y)
+
+pub put-determined : (κs : _) (a a′ : _) (r r′ : _) (s s′ : _) → Put κs a r s → Put κs a′ r′ s′ →
+    a .0 ≡ a′ .0 → a .1 .0 ≡ a′ .1 .0 → now (a .1 .1 .0) ≡ now (a′ .1 .1 .0) → now (s .1 .1 .0) ≡ now (s′ .1 .1 .0)
+unfolding stored
+put-determined κs a a′ r r′ s s′ p q point k out =
+    let same : stored (a .0) (a .1 .0) (now (a .1 .1 .0)) ≡ stored (a′ .0) (a′ .1 .0) (now (a′ .1 .1 .0)) = rw (point, k, out) in
+    p ∙ same ∙ sym q
+
+-- the contract leaves no choice: to lists of the same values and to the same room it allows one verdict
+pub judge-determined : (κs : _) (a a′ : _) (r r′ : _) (s s′ : _) → Judge κs a r s → Judge κs a′ r′ s′ →
+    now (a .0) ≡ now (a′ .0) → a .1 .0 ≡ a′ .1 .0 → r ≡ r′
+judge-determined κs a a′ r r′ s s′ p q list room = p ∙ ap₂ (λ (l : List ℤ) (n : ℕ). verdict (refusal l n)) list room ∙ sym q
+
+-- a refusal changes nothing
+pub outcome-unchanged : (o : Option Refusal) (ps : List PointI32) (out : List ℤ) (r : Refusal) → outcome o ps out .answer ≡ Refused r → outcome o ps out .out ≡ out
+unfolding outcome
+outcome-unchanged (some q) ps out r e = refl
+outcome-unchanged none ps out r e = let z : _≡_ {A = ℕ} 0 1 = cc in absurd (omega arith)
+
+-- what is counted fits the buffer, and the buffer keeps its length
+pub record Fitting (o : Outcome) (out : List ℤ) : Type 0 where
+  pub counted : countOf (o .answer) * 2 ≤ length out
+  pub long : length (o .out) ≡ length out
+
+pub outcome-fitting : (o : Option Refusal) (ps : List PointI32) (out : List ℤ) → (o ≡ none → length ps * 2 ≤ length out) → Fitting (outcome o ps out) out
+unfolding outcome
+outcome-fitting (some q) ps out h = record { counted = omega arith; long = refl }
+outcome-fitting none ps out h =
+    let k : length ps * 2 ≤ length out = h refl in
+    record { counted = k; long = length-over (flat ps) out (omega (arith, length-flat ps)) }

@@ -1,4 +1,6 @@
--- The limits that the refusals judge, and points.
+pub mod Refusals
 pub mod Limits
-pub mod Examples
 pub mod Points
+pub mod Outcomes
+pub mod inside
+pub mod Examples

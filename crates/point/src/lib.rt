@@ -1,7 +1,10 @@
-// Points, the limits that every call of the library keeps; and, passed on, the refusals and their numbers.
+// Points, the limits that every call of the library keeps, why a call refuses, and lists of points read and
+// written one point at a time.
 //
-// Each test here is total and looks at nothing but what it is handed.
+// Each call is total and looks at nothing but what it is handed.
 mod limits;
+mod list;
+mod refusal;
 
 pub use limits::bad_points;
 pub use limits::bad_points_f64;
@@ -9,10 +12,14 @@ pub use limits::bad_sq_tolerance;
 pub use limits::bad_tolerance;
 pub use limits::in_range;
 pub use limits::in_range_f64;
+pub use limits::judge;
 pub use limits::places_for;
 pub use limits::too_many;
-pub use refusals::Answer;
-pub use refusals::Refusal;
+pub use list::point_at;
+pub use list::put;
+pub use refusal::Answer;
+pub use refusal::Refusal;
+pub use refusal::Verdict;
 
 // A point of a chart or an outline, in pixels, y down.
 pub struct PointI32 {

@@ -2,6 +2,9 @@
 ghost use mathlib.Core.Bool.{_&&_};
 ghost use mathlib.Core.Path.{_≡_};
 ghost use Rattle.point.specs.Limits.{tooMany, inRange, within, inRangeF64, badPoints, badPointsF64, badTolerance, badSqTolerance, placesFor};
+ghost use Rattle.point.specs.Outcomes.{refusal, verdict};
+use crate::refusal::Refusal;
+use crate::refusal::Verdict;
 
 // A list of points is at most 4,096 points long: x, y, x, y.
 pub const MOST_VALUES: usize = 8192;
@@ -104,4 +107,20 @@ fn both(a: bool, b: bool) -> bool
     ensures { λ r. ⌜ r ≡ (a && b) ⌝ }
 {
     a && b
+}
+
+// The lowest refusal that applies to a list and to the room for its answer, in values.
+pub fn judge(points: &[i32], room: usize) -> Verdict
+    ensures { λ r. ⌜ r ≡ verdict (refusal (now (points .entry)) room) ⌝ }
+{
+    if too_many(points.len()) {
+        return Verdict::Refused(Refusal::TooMany);
+    }
+    if bad_points(points) {
+        return Verdict::Refused(Refusal::BadPoint);
+    }
+    if room < places_for(points.len() / 2) * 2 {
+        return Verdict::Refused(Refusal::NoRoom);
+    }
+    Verdict::Fine
 }

@@ -1,35 +1,143 @@
--- What follows of the contracts, for their readers and their callers; of the calls that are passed on it is said in their crates, and passed on
--- here. Assumes nothing.
+-- What follows of the contracts, for their readers and their callers. Assumes nothing.
 use Prim.Native.Nat.{ℕ, _*_, _≤_}
-use mathlib.Core.Bool.{Bool, true, false}
+use mathlib.Core.Bool.{not, _||_, Bool, true, false}
 use mathlib.Core.List.{List}
 use mathlib.Core.Option.{Option, some, none}
-use mathlib.Core.Path.{_≡_, refl, sym, ap, ap₂, _∙_}
+use mathlib.Core.Path.{_≡_, refl, sym, ap₂, _∙_, ap}
 use native.Mathlib.Omega.{arith}
+use lib.Dec.{ltb, eqb}
 use lib.Ieee.{Float, binary64, ofBits, mul}
 use lib.IntN.{ℤ}
 use lib.ListN.{length}
+use borrow.Author.Tests.{ltb-false}
 use denote.Ref.{now}
 use Rattle.point.specs.Limits.{tooMany, badPoints, badSqTolerance, placesFor}
-use Rattle.point.specs.Points.{flat, points}
-use Rattle.refusals.specs.Refusals.{countOf}
-use Rattle.refusals.specs.declared.Answer.the-variants.{Refused}
-use Rattle.point.specs.declared.PointI32.{PointI32}
-use Rattle.refusals.specs.declared.Refusal.{Refusal}
-use Rattle.outline.specs.Points.{count}
-use Rattle.outline.proofs.Flat.{length-points, count-flat}
-use Rattle.outline.proofs.Room.{places-enough, places-shorter}
+use Rattle.point.specs.Points.{points, count, flat}
+use Rattle.point.specs.Refusals.{countOf}
+use Rattle.point.specs.declared.refusal.Answer.the-variants.{Refused}
+use Rattle.point.specs.declared.refusal.Refusal.{Refusal}
+use Rattle.point.proofs.Room.{places-enough, places-shorter}
+use Rattle.reduce.specs.Keep.{Points, shortFor}
+use Rattle.reduce.specs.Kept.{kept, marksBy}
+use Rattle.reduce.proofs.keep.Handed.{next, places, marks-fit}
+use Rattle.reduce.specs.Zoom.{Numbered, numbersRefusal, numbersOutcome, numberedOf, zoomRefusal, zoomOutcome, zoomOf}
+use Rattle.reduce.proofs.numbering.numbers.Reads.{Post as Numbers}
+use Rattle.reduce.proofs.zooming.zoom.Reads.{Post as Zoom}
+use Rattle.laws.specs.Joined.{both-false}
 use Rattle.split.specs.Tree.{marksOf}
-use Rattle.keeping.specs.Calls.{shortFor}
-use Rattle.keeping.proofs.Claims.{next, places, marks-fit}
-pub use Rattle.douglas_peucker.proofs.Claims.{douglas-peucker-determined, douglas-peucker-unchanged, douglas-peucker-fits}
-pub use Rattle.zooms.proofs.Claims.{numbers-determined, zoom-determined, numbers-unchanged, zoom-unchanged, numbers-fit, zoom-fits}
+use Rattle.reduce.specs.DouglasPeucker.{Marked, splitRefusal, splitOutcome, douglasPeuckerOf}
+use Rattle.reduce.proofs.douglas_peucker.simplify_douglas_peucker.Reads.{Post as Douglas-peucker}
+use Rattle.point.specs.declared.PointI32.{PointI32}
+use Rattle.point.proofs.Flat.{length-points, count-flat}
 use Rattle.reduce.specs.Radial.{radial}
-use Rattle.reduce.specs.Calls.{Points, radialRefusal, radialOutcome, radialOf, Reduced, reduceRefusal, reduceOutcome, reduceOf}
+use Rattle.reduce.specs.Reduce.{radialRefusal, radialOutcome, radialOf, Reduced, reduceRefusal, reduceOutcome, reduceOf}
 use Rattle.reduce.proofs.radial.Far.{radial-shorter}
 use Rattle.reduce.proofs.Lines.{inWhole, many-points, answers-whole, answers-narrowed, out-room}
 use Rattle.reduce.proofs.radial.simplify_radial_dist.Reads.{Post as Radial}
 use Rattle.reduce.proofs.both_passes.reduce.Reads.{Post as Reduce}
+
+-- ---- each contract leaves no choice: of equal arguments it allows one answer, and one last content of every buffer. `Post` is the contract
+-- itself, as Rattle reads it off the source, at arguments `a`, a result `r` and parameters at exit `s`.
+
+pub numbers-determined : (κs : _) (a a′ : _) (r r′ : _) (s s′ : _) → Numbers κs a r s → Numbers κs a′ r′ s′ →
+    now (a .0) ≡ now (a′ .0) → now (a .1 .0) ≡ now (a′ .1 .0) →
+    _≡_ {A = Numbered} (record { answer = r; out = now (s .1 .0) }) (record { answer = r′; out = now (s′ .1 .0) })
+numbers-determined κs a a′ r r′ s s′ p q list out = p ∙ ap₂ numberedOf list out ∙ sym q
+
+pub zoom-determined : (κs : _) (a a′ : _) (r r′ : _) (s s′ : _) → Zoom κs a r s → Zoom κs a′ r′ s′ →
+    now (a .0) ≡ now (a′ .0) → now (a .1 .0) ≡ now (a′ .1 .0) → a .1 .1 .0 ≡ a′ .1 .1 .0 → now (a .1 .1 .1 .0) ≡ now (a′ .1 .1 .1 .0) →
+    _≡_ {A = Points} (record { answer = r; out = now (s .1 .1 .1 .0) }) (record { answer = r′; out = now (s′ .1 .1 .1 .0) })
+zoom-determined κs a a′ r r′ s s′ p q list numbers tolerance out =
+    p
+    ∙ ap₂ (λ (l : List ℤ) (v : List Float). zoomOf l v (a .1 .1 .0) (now (a .1 .1 .1 .0))) list numbers
+    ∙ ap₂ (zoomOf (now (a′ .0)) (now (a′ .1 .0))) tolerance out
+    ∙ sym q
+
+-- ---- a refusal changes no buffer
+
+pub numbers-unchanged : (list : List ℤ) (out : List Float) (r : Refusal) → numberedOf list out .answer ≡ Refused r → numberedOf list out .out ≡ out
+unfolding numberedOf
+numbers-unchanged list out r = by (numbersRefusal list out)
+  where
+    by : (o : Option Refusal) → numbersOutcome o list out .answer ≡ Refused r → numbersOutcome o list out .out ≡ out
+    by (some q) e = refl
+    by none e = let z : _≡_ {A = ℕ} 0 1 = cc in absurd (omega arith)
+
+pub zoom-unchanged : (list : List ℤ) (numbers : List Float) (tolerance : Float) (out : List ℤ) (r : Refusal) →
+    zoomOf list numbers tolerance out .answer ≡ Refused r → zoomOf list numbers tolerance out .out ≡ out
+unfolding zoomOf
+zoom-unchanged list numbers tolerance out r = by (zoomRefusal list numbers tolerance out)
+  where
+    by : (o : Option Refusal) → zoomOutcome o list numbers tolerance out .answer ≡ Refused r → zoomOutcome o list numbers tolerance out .out ≡ out
+    by (some q) e = refl
+    by none e = let z : _≡_ {A = ℕ} 0 1 = cc in absurd (omega arith)
+
+-- ---- what an answer counts has its place in the buffer
+
+pub zoom-fits : (list : List ℤ) (numbers : List Float) (tolerance : Float) (out : List ℤ) → countOf (zoomOf list numbers tolerance out .answer) * 2 ≤ length out
+unfolding zoomOf
+zoom-fits list numbers tolerance out = by (zoomRefusal list numbers tolerance out) refl
+  where
+    by : (o : Option Refusal) → zoomRefusal list numbers tolerance out ≡ o → countOf (zoomOutcome o list numbers tolerance out .answer) * 2 ≤ length out
+    by (some q) e = omega arith
+    by none e =
+        let good = next _ (badPoints list || not (eqb (length numbers) (count list))) _ (next _ (tooMany (length list)) _ e .1) .1 in
+        let fine = next _ (badSqTolerance tolerance) _ (next _ (eqb (count list) 0) _ good .1) .1 in
+        places (count list) (length (kept (marksBy tolerance numbers) (points list))) out (next _ (shortFor (count list) out) _ fine .0)
+        (marks-fit (marksBy tolerance numbers) list)
+
+pub numbers-fit : (list : List ℤ) (out : List Float) → countOf (numberedOf list out .answer) ≤ length out
+unfolding numberedOf
+numbers-fit list out = by (numbersRefusal list out) refl
+  where
+    by : (o : Option Refusal) → numbersRefusal list out ≡ o → countOf (numbersOutcome o list out .answer) ≤ length out
+    by (some q) e = omega arith
+    by none e =
+        let good = next _ (badPoints list) _ (next _ (tooMany (length list)) _ e .1) .1 in
+        let room = next _ (ltb (length out) (placesFor (count list))) _ (next _ (eqb (count list) 0) _ good .1) .0 in
+        omega (arith, ltb-false (length out) (placesFor (count list)) room, places-enough (count list))
+
+-- ---- the contract leaves no choice: of equal arguments it allows one answer, and one last content of every buffer. `Post` is the contract
+-- itself, as Rattle reads it off the source, at arguments `a`, a result `r` and parameters at exit `s`.
+
+pub douglas-peucker-determined : (κs : _) (a a′ : _) (r r′ : _) (s s′ : _) → Douglas-peucker κs a r s → Douglas-peucker κs a′ r′ s′ →
+    now (a .0) ≡ now (a′ .0) → a .1 .0 ≡ a′ .1 .0 → now (a .1 .1 .0) ≡ now (a′ .1 .1 .0) → now (a .1 .1 .1 .0) ≡ now (a′ .1 .1 .1 .0) →
+    _≡_ {A = Marked} (record { answer = r; out = now (s .1 .1 .0); marks = now (s .1 .1 .1 .0) })
+    (record { answer = r′; out = now (s′ .1 .1 .0); marks = now (s′ .1 .1 .1 .0) })
+douglas-peucker-determined κs a a′ r r′ s s′ p q list tolerance out marks =
+    p
+    ∙ ap₂ (λ (l : List ℤ) (t : Float). douglasPeuckerOf l t (now (a .1 .1 .0)) (now (a .1 .1 .1 .0))) list tolerance
+    ∙ ap₂ (douglasPeuckerOf (now (a′ .0)) (a′ .1 .0)) out marks
+    ∙ sym q
+
+-- ---- a refusal changes no buffer
+
+pub douglas-peucker-unchanged : (list : List ℤ) (tolerance : Float) (out : List ℤ) (marks : List ℕ) (r : Refusal) →
+    douglasPeuckerOf list tolerance out marks .answer ≡ Refused r →
+    (douglasPeuckerOf list tolerance out marks .out ≡ out) × (douglasPeuckerOf list tolerance out marks .marks ≡ marks)
+unfolding douglasPeuckerOf
+douglas-peucker-unchanged list tolerance out marks r = by (splitRefusal list tolerance out marks)
+  where
+    by : (o : Option Refusal) → splitOutcome o list tolerance out marks .answer ≡ Refused r →
+        (splitOutcome o list tolerance out marks .out ≡ out) × (splitOutcome o list tolerance out marks .marks ≡ marks)
+    by (some q) e = (refl, refl)
+    by none e = let z : _≡_ {A = ℕ} 0 1 = cc in absurd (omega arith)
+
+-- ---- what an answer counts has its place in the buffer
+
+pub douglas-peucker-fits : (list : List ℤ) (tolerance : Float) (out : List ℤ) (marks : List ℕ) →
+    countOf (douglasPeuckerOf list tolerance out marks .answer) * 2 ≤ length out
+unfolding douglasPeuckerOf
+douglas-peucker-fits list tolerance out marks = by (splitRefusal list tolerance out marks) refl
+  where
+    by : (o : Option Refusal) → splitRefusal list tolerance out marks ≡ o → countOf (splitOutcome o list tolerance out marks .answer) * 2 ≤ length out
+    by (some q) e = omega arith
+    by none e =
+        let good = next _ (badPoints list) _ (next _ (tooMany (length list)) _ e .1) .1 in
+        let fine = next _ (badSqTolerance tolerance) _ (next _ (eqb (count list) 0) _ good .1) .1 in
+        let room = next _ (shortFor (count list) out || ltb (length marks) (count list)) _ fine .0 in
+        places (count list) (length (kept (marksOf tolerance list) (points list))) out
+        (both-false (shortFor (count list) out) (ltb (length marks) (count list)) room .0) (marks-fit (marksOf tolerance list) list)
 
 -- ---- each contract leaves no choice: of equal arguments it allows one answer, and one last content of every buffer. `Post` is the contract
 -- itself, as Rattle reads it off the source, at arguments `a`, a result `r` and parameters at exit `s`.

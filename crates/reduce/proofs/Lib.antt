@@ -1,3 +1,4 @@
--- Laws, leaves first: `Claims` has what callers cite.
-pub mod Lines
 pub mod Claims
+pub mod Select
+pub mod Marks
+pub mod Lines

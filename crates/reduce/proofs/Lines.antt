@@ -13,11 +13,11 @@ use borrow.Author.Tests.{leb-false, ltb-false}
 use Rattle.laws.specs.Joined.{both-false}
 use Rattle.point.specs.Limits.{tooMany, badPoints, badTolerance, inRange, placesFor}
 use Rattle.point.proofs.Claims.{whole-points}
-use Rattle.outline.specs.Points.{count}
-use Rattle.outline.proofs.Room.{places-enough}
-use Rattle.keeping.specs.Calls.{shortFor}
-use Rattle.keeping.proofs.Claims.{next}
-use Rattle.reduce.specs.Calls.{reduceRefusal, whole, narrowed, reduceOutcome}
+use Rattle.point.specs.Points.{count}
+use Rattle.point.proofs.Room.{places-enough}
+use Rattle.reduce.specs.Keep.{shortFor}
+use Rattle.reduce.proofs.keep.Handed.{next}
+use Rattle.reduce.specs.Reduce.{reduceRefusal, whole, narrowed, reduceOutcome}
 
 -- a list is answered whole
 abbrev pub inWhole : List ℤ → Float → Bool

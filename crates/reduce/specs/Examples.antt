@@ -1,13 +1,91 @@
--- Worked examples of document 01: antt computes each, so `refl` proves it.
+-- Worked examples: antt computes each, so `refl` proves it.
+use mathlib.Core.Bool.{false}
 use mathlib.Core.List.{[], _∷_}
 use mathlib.Core.Path.{_≡_, refl}
 use lib.IntN.{pos}
-use lib.Ieee.{binary64, ofInt, ofBits, add, sub, mul, div, lt, ne, eq, le}
+use lib.Ieee.{inf, binary64, ofInt, lt, nan, le, ofBits, add, sub, mul, div, ne, eq}
+use Rattle.point.specs.declared.refusal.Answer.the-variants.{Done, Refused}
+use Rattle.point.specs.declared.refusal.Refusal.the-variants.{NoRoom, BadPoint, TooFew, BadTolerance}
+use Rattle.reduce.specs.Keep.{keptAllOf, keptMarkedOf, keptAboveOf}
 use Rattle.point.specs.Limits.{badList}
-use Rattle.refusals.specs.declared.Answer.the-variants.{Done}
+use Rattle.reduce.specs.Zoom.{numberedOf, zoomOf}
+use Rattle.reduce.specs.DouglasPeucker.{douglasPeuckerOf}
 use Rattle.split.specs.Distance.{sqSegDist}
 use Rattle.reduce.specs.Distance.{sqDist}
-use Rattle.reduce.specs.Calls.{radialOf, reduceOf}
+use Rattle.reduce.specs.Reduce.{radialOf, reduceOf}
+
+all-kept : keptAllOf (pos 1 ∷ pos 2 ∷ []) (pos 9 ∷ pos 9 ∷ pos 9 ∷ []) ≡ record { answer = Done 1; out = pos 1 ∷ pos 2 ∷ pos 9 ∷ [] }
+unfolding keptAllOf
+all-kept = refl
+
+-- the ends of three points, by their marks and by their numbers
+ends-marked : keptMarkedOf (pos 1 ∷ pos 2 ∷ pos 3 ∷ pos 4 ∷ pos 5 ∷ pos 6 ∷ []) (1 ∷ 0 ∷ 1 ∷ []) (pos 9 ∷ pos 9 ∷ pos 9 ∷ pos 9 ∷ pos 9 ∷ pos 9 ∷ [])
+    ≡ record { answer = Done 2; out = pos 1 ∷ pos 2 ∷ pos 5 ∷ pos 6 ∷ pos 9 ∷ pos 9 ∷ [] }
+unfolding keptMarkedOf
+ends-marked = refl
+
+ends-above : keptAboveOf (pos 1 ∷ pos 2 ∷ pos 3 ∷ pos 4 ∷ pos 5 ∷ pos 6 ∷ []) (inf false ∷ ofInt binary64 (pos 7) ∷ inf false ∷ []) (ofInt binary64 (pos 7))
+    (pos 9 ∷ pos 9 ∷ pos 9 ∷ pos 9 ∷ pos 9 ∷ pos 9 ∷ [])
+    ≡ record { answer = Done 2; out = pos 1 ∷ pos 2 ∷ pos 5 ∷ pos 6 ∷ pos 9 ∷ pos 9 ∷ [] }
+unfolding keptAboveOf ofInt lt
+ends-above = refl
+
+-- a single point is kept twice, and two places are asked for
+one-place : keptMarkedOf (pos 1 ∷ pos 2 ∷ []) (1 ∷ []) (pos 9 ∷ pos 9 ∷ []) ≡ record { answer = Refused NoRoom; out = pos 9 ∷ pos 9 ∷ [] }
+unfolding keptMarkedOf
+one-place = refl
+
+-- P10, by the numbers of P9: at 16 the ends only, at 15 all
+zoomed-at-16 : zoomOf (pos 0 ∷ pos 0 ∷ pos 8 ∷ pos 2 ∷ pos 0 ∷ pos 4 ∷ pos 8 ∷ pos 0 ∷ []) (inf false ∷ ofInt binary64 (pos 16) ∷ ofInt binary64 (pos 16) ∷ inf false ∷ [])
+    (ofInt binary64 (pos 16)) (pos 9 ∷ pos 9 ∷ pos 9 ∷ pos 9 ∷ pos 9 ∷ pos 9 ∷ pos 9 ∷ pos 9 ∷ [])
+    ≡ record { answer = Done 2; out = pos 0 ∷ pos 0 ∷ pos 8 ∷ pos 0 ∷ pos 9 ∷ pos 9 ∷ pos 9 ∷ pos 9 ∷ [] }
+unfolding zoomOf badList ofInt le lt
+zoomed-at-16 = refl
+
+zoomed-at-15 : zoomOf (pos 0 ∷ pos 0 ∷ pos 8 ∷ pos 2 ∷ pos 0 ∷ pos 4 ∷ pos 8 ∷ pos 0 ∷ []) (inf false ∷ ofInt binary64 (pos 16) ∷ ofInt binary64 (pos 16) ∷ inf false ∷ [])
+    (ofInt binary64 (pos 15)) (pos 9 ∷ pos 9 ∷ pos 9 ∷ pos 9 ∷ pos 9 ∷ pos 9 ∷ pos 9 ∷ pos 9 ∷ [])
+    ≡ record { answer = Done 4; out = pos 0 ∷ pos 0 ∷ pos 8 ∷ pos 2 ∷ pos 0 ∷ pos 4 ∷ pos 8 ∷ pos 0 ∷ [] }
+unfolding zoomOf badList ofInt le lt
+zoomed-at-15 = refl
+
+-- a zoom of one point gives it twice
+one-zoomed : zoomOf (pos 7 ∷ pos 8 ∷ []) (inf false ∷ []) (ofInt binary64 (pos 0)) (pos 9 ∷ pos 9 ∷ pos 9 ∷ pos 9 ∷ [])
+    ≡ record { answer = Done 2; out = pos 7 ∷ pos 8 ∷ pos 7 ∷ pos 8 ∷ [] }
+unfolding zoomOf badList ofInt le
+one-zoomed = refl
+
+-- a list of numbers that has not one for each point is BadPoint
+no-number : zoomOf (pos 7 ∷ pos 8 ∷ []) [] (ofInt binary64 (pos 0)) (pos 9 ∷ pos 9 ∷ pos 9 ∷ pos 9 ∷ []) ≡ record { answer = Refused BadPoint; out = pos 9 ∷ pos 9 ∷ pos 9 ∷ pos 9 ∷ [] }
+unfolding zoomOf badList
+no-number = refl
+
+-- one point has the number +infinity, and needs two places: "n places, 2 where n is 1"
+one-numbered : numberedOf (pos 7 ∷ pos 8 ∷ []) (nan ∷ nan ∷ []) ≡ record { answer = Done 1; out = inf false ∷ nan ∷ [] }
+unfolding numberedOf badList
+one-numbered = refl
+
+one-place-for-numbers : numberedOf (pos 7 ∷ pos 8 ∷ []) (nan ∷ []) ≡ record { answer = Refused NoRoom; out = nan ∷ [] }
+unfolding numberedOf badList
+one-place-for-numbers = refl
+
+-- "Douglas-Peucker of one point gives it twice", and its mark is one 1
+one-split : douglasPeuckerOf (pos 7 ∷ pos 8 ∷ []) (ofInt binary64 (pos 0)) (pos 9 ∷ pos 9 ∷ pos 9 ∷ pos 9 ∷ []) (5 ∷ 5 ∷ [])
+    ≡ record { answer = Done 2; out = pos 7 ∷ pos 8 ∷ pos 7 ∷ pos 8 ∷ []; marks = 1 ∷ 5 ∷ [] }
+unfolding douglasPeuckerOf badList ofInt le
+one-split = refl
+
+-- "The lowest that applies is given": half a point before no tolerance and no room; no points before no tolerance; no tolerance before no room
+half-a-point : douglasPeuckerOf (pos 7 ∷ []) nan [] [] ≡ record { answer = Refused BadPoint; out = []; marks = [] }
+unfolding douglasPeuckerOf badList
+half-a-point = refl
+
+no-points : douglasPeuckerOf [] nan [] [] ≡ record { answer = Refused TooFew; out = []; marks = [] }
+unfolding douglasPeuckerOf badList
+no-points = refl
+
+no-tolerance : douglasPeuckerOf (pos 7 ∷ pos 8 ∷ []) nan [] [] ≡ record { answer = Refused BadTolerance; out = []; marks = [] }
+unfolding douglasPeuckerOf badList ofInt le
+no-tolerance = refl
 
 -- P7 and P8: radial (0,0) (3,4) (6,8) at 25 drops the middle, at 24 keeps it
 radial-at-25 : radialOf (pos 0 ∷ pos 0 ∷ pos 3 ∷ pos 4 ∷ pos 6 ∷ pos 8 ∷ []) (ofInt binary64 (pos 25)) (pos 9 ∷ pos 9 ∷ pos 9 ∷ pos 9 ∷ pos 9 ∷ pos 9 ∷ [])

@@ -10,9 +10,10 @@ ghost use lib.ListN.{length, take};
 ghost use Rattle.laws.specs.If.{if_then_else_};
 ghost use Rattle.point.specs.Limits.{badPoints, placesFor};
 ghost use Rattle.point.specs.Points.{points as pointsOf};
-ghost use Rattle.outline.specs.Written.{Handed};
+ghost use Rattle.point.specs.inside.Written.{Handed};
 ghost use Rattle.reduce.specs.Radial.{radial};
-ghost use Rattle.reduce.specs.Calls.{reduceRefusal, reduceOutcome, reduceOf};
+ghost use Rattle.reduce.specs.Reduce.{reduceRefusal, reduceOutcome, reduceOf};
+use crate::keep;
 use crate::radial::keep_far;
 use point::Answer;
 use point::Refusal;
@@ -76,10 +77,10 @@ fn narrow(
     let kept = radial_unless(whole, points, sq_tolerance * 0.5, scratch);
     let list = list_of(whole, points, scratch, kept);
     if whole {
-        return keeping::keep_all(list, out);
+        return keep::keep_all(list, out);
     }
     split::mark(list, sq_tolerance, marks);
-    keeping::keep_marked(list, marks, out)
+    keep::keep_marked(list, marks, out)
 }
 
 // Whether a list is answered whole.

@@ -9,13 +9,14 @@ ghost use Rattle.point.specs.Limits.{badPoints};
 ghost use Rattle.point.specs.Points.{flat, points as pointsOf};
 ghost use Rattle.reduce.specs.Distance.{sqDist};
 ghost use Rattle.reduce.specs.Radial.{radial, radialEnd, samePoint};
-ghost use Rattle.outline.specs.Written.{onto, Handed};
-ghost use Rattle.reduce.specs.Calls.{radialOf};
-use outline::point_at;
-use outline::put;
+ghost use Rattle.point.specs.inside.Written.{onto, Handed};
+ghost use Rattle.reduce.specs.Reduce.{radialOf};
+use crate::keep;
 use point::Answer;
 use point::PointI32;
 use point::Refusal;
+use point::point_at;
+use point::put;
 
 // Puts the points that the radial pass keeps at the start of `out`.
 pub fn simplify_radial_dist(points: &[i32], tolerance: f64, out: &mut [i32]) -> Answer
@@ -44,7 +45,7 @@ pub(crate) fn keep_far(points: &[i32], tolerance: f64, out: &mut [i32]) -> usize
 {
     let n = points.len() / 2;
     if n <= 2 {
-        keeping::keep_all(points, out);
+        keep::keep_all(points, out);
         return n;
     }
     let mut prev = point_at(points, 0);

@@ -11,8 +11,8 @@ use borrow.Author.Tests.{eqb-true, ne-eqb, le-ltb, lt-ltb, not-true, not-false}
 use Rattle.laws.specs.Joined.{both-true}
 use Rattle.laws.specs.If.{if_then_else_}
 use Rattle.point.specs.declared.PointI32.{PointI32}
-use Rattle.bitmap.specs.Pixels.{rowBytes}
-use Rattle.bitmap.specs.declared.Chart.{Chart}
+use Rattle.chart.specs.Pixels.{rowBytes}
+use Rattle.chart.specs.declared.Chart.{Chart}
 use Rattle.requests.specs.Frame.{wordAt, directed, clockwise, chartIn, startIn, walk, walkIn, simplifyIn, reduceIn, numbersIn, kindIn, requestIn, no-frame, Request}
 use Rattle.requests.specs.Handed.{Outcome, handed}
 use Rattle.requests.specs.declared.Asked.{Asked}

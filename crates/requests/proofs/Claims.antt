@@ -12,7 +12,7 @@ use borrow.Author.Tests.{eqb-true, ltb-false, le-leb}
 use Rattle.laws.specs.Joined.{both-true}
 use Rattle.laws.specs.Lists.{take-over-all}
 use Rattle.laws.specs.If.{if_then_else_}
-use Rattle.bitmap.specs.Pixels.{rowBytes}
+use Rattle.chart.specs.Pixels.{rowBytes}
 use Rattle.requests.specs.Frame.{Request, walk, simplify, reduce, numbers, no-frame, wordAt, valuesOf, clockwise, directed, chartIn, startIn, walkIn, simplifyIn, reduceIn, numbersIn, kindIn, requestIn}
 use Rattle.requests.specs.Handed.{Outcome, handed}
 use Rattle.requests.specs.declared.Asked.{Asked}

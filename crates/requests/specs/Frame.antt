@@ -7,8 +7,8 @@ use lib.IntN.{ℤ, pos, _-ℤ_}
 use lib.ListN.{length, getD, drop}
 use Rattle.laws.specs.If.{if_then_else_}
 use Rattle.point.specs.declared.PointI32.{PointI32}
-use Rattle.bitmap.specs.Pixels.{rowBytes}
-use Rattle.bitmap.specs.declared.Chart.{Chart}
+use Rattle.chart.specs.Pixels.{rowBytes}
+use Rattle.chart.specs.declared.Chart.{Chart}
 
 -- ---- numbers of two bytes
 

@@ -6,7 +6,7 @@ mod listed;
 mod walking;
 mod words;
 
-use bitmap::Chart;
+use chart::Chart;
 pub use kinds::request;
 use point::PointI32;
 

@@ -5,13 +5,13 @@ ghost use mathlib.Core.List.{[]};
 ghost use Prim.Native.Nat.{_+_, _*_, _<_, _≤_};
 ghost use lib.Dec.{eqb};
 ghost use lib.ListN.{length};
-ghost use Rattle.bitmap.specs.Pixels.{rowBytes};
+ghost use Rattle.chart.specs.Pixels.{rowBytes};
 ghost use Rattle.requests.specs.Frame.{wordAt, directed, chartIn, startIn, walkIn};
 ghost use Rattle.requests.specs.Handed.{handed};
 use crate::Asked;
 use crate::words::signed;
 use crate::words::word;
-use bitmap::Chart;
+use chart::Chart;
 use point::PointI32;
 
 // Reads a frame of kind 01. It has no points, so that no buffer is needed.

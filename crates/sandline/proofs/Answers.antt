@@ -15,7 +15,7 @@ use Rattle.lines.specs.declared.turns.State.{State}
 use Rattle.lines.specs.declared.turns.Turn.{Turn}
 use Rattle.lines.specs.declared.turns.Turn.the-variants.{Read, End}
 use Rattle.lines.proofs.Answers as Answers
-use Rattle.frames.specs.Reply.{answerTo}
+use Rattle.frames.specs.Answer.{answerTo}
 use Rattle.frames.proofs.Claims.{answer-short}
 use Rattle.frames.proofs.Lengths.{too-long-is-no-frame, empty-is-no-frame}
 

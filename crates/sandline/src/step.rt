@@ -5,7 +5,7 @@ ghost use Prim.Native.Nat.{_+_, _≤_};
 ghost use lib.ListN.{length};
 ghost use Rattle.texts.specs.Put.{put};
 ghost use Rattle.lines.specs.Turns.{line, stepOf};
-ghost use Rattle.frames.specs.Reply.{answerTo};
+ghost use Rattle.frames.specs.Answer.{answerTo};
 use lines::State;
 use lines::Turn;
 

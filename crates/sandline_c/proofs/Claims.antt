@@ -13,28 +13,28 @@ use prog.Memory.{Memory}
 use prog.Routine.{Routine}
 use prog.Wp.{Heap}
 use denote.Ref.{now}
-use Rattle.bitmap.specs.Area.{areaOf}
-use Rattle.bitmap.specs.Pixels.{pixelAt}
-use Rattle.bitmap.specs.Start.{firstStart}
+use Rattle.chart.specs.Area.{areaOf}
+use Rattle.chart.specs.Pixels.{pixelAt}
+use Rattle.chart.specs.Start.{firstStart}
 use Rattle.corners.specs.Calls.{findCornersOf}
-use Rattle.ratios.specs.Answers.{intersectionValues}
-use Rattle.crossing.specs.Calls.{intersectionOf}
-use Rattle.ratios.specs.Ratios.{outsideOf, insideOf, coincideOf}
-use Rattle.ratios.specs.declared.Intersection.{Intersection}
-use Rattle.ratios.specs.declared.Intersection.the-variants as Case
-use Rattle.frames.specs.Reply.{answerTo}
-use Rattle.measures.specs.Calls.{middleOf, normOf, normOfI32}
-use Rattle.outline.specs.Points.{pointAt}
+use Rattle.util.specs.Answers.{intersectionValues}
+use Rattle.util.specs.Crossing.{intersectionOf}
+use Rattle.util.specs.Ratios.{outsideOf, insideOf, coincideOf}
+use Rattle.util.specs.declared.ratios.Intersection.{Intersection}
+use Rattle.util.specs.declared.ratios.Intersection.the-variants as Case
+use Rattle.frames.specs.Answer.{answerTo}
+use Rattle.util.specs.Measures.{middleOf, normOf, normOfI32}
+use Rattle.point.specs.Points.{pointAt}
 use Rattle.pbm.specs.Calls.{readOf, writtenOf}
-use Rattle.reduce.specs.Calls.{radialOf, douglasPeuckerOf, reduceOf, numberedOf, zoomOf}
-use Rattle.simplify.specs.Calls.{staircaseOf, penaltiesOf, simplifyOf}
-use Rattle.rounds.specs.Calls.{subdividedOf}
-use Rattle.spirals.specs.Spiral.{freshSpiral, advanced}
-use Rattle.spirals.specs.declared.SpiralWalker.{SpiralWalker}
+use Rattle.reduce.specs.Reduce.{radialOf, douglasPeuckerOf, reduceOf, numberedOf, zoomOf}
+use Rattle.simplify.specs.Simplify.{staircaseOf, penaltiesOf, simplifyOf}
+use Rattle.smooth.specs.Calls.{subdividedOf}
+use Rattle.spiral.specs.Spiral.{freshSpiral, advanced}
+use Rattle.spiral.specs.declared.SpiralWalker.{SpiralWalker}
 use Rattle.sqrt.specs.Root.{rootOf}
 use Rattle.texts.specs.Put.{put, Outcome as Text}
 use Rattle.util.specs.Area.{signedAreaOf}
-use Rattle.walks.specs.Walk.{walked as walkOf}
+use Rattle.walker.specs.Walk.{walked as walkOf}
 use Rattle.sandline_c.specs.Handed.{Counted, Valued, passed, points, numbered, flagged, marked, reduced, walked, written, pictured, subdivided, crossing, started, celled, signed, midway, measured, begun, advancedTo}
 use Rattle.sandline_c.specs.Read.{chart, point, place, placeAt, pair, settings, crossed}
 use Rattle.sandline_c.specs.declared.spiralling.Begun.{Begun}

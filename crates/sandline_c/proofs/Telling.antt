@@ -9,23 +9,23 @@ use mir.Val.{SFits, ofZ, toZ}
 use lib.Ieee.{Float}
 use lib.IntN.{ℤ}
 use borrow.Author.Needs.{needs}
-use Rattle.refusals.specs.Refusals.{refusalNumber, numberOf, countOf}
-use Rattle.refusals.specs.declared.Answer.{Answer}
-use Rattle.refusals.specs.declared.Refusal.{Refusal}
-use Rattle.bitmap.specs.Pixels.{pixelAt}
-use Rattle.bitmap.specs.declared.Chart.{Chart}
+use Rattle.point.specs.Refusals.{refusalNumber, numberOf, countOf}
+use Rattle.point.specs.declared.refusal.Answer.{Answer}
+use Rattle.point.specs.declared.refusal.Refusal.{Refusal}
+use Rattle.chart.specs.Pixels.{pixelAt}
+use Rattle.chart.specs.declared.Chart.{Chart}
 use Rattle.corners.specs.Calls.{Outcome as Flagged, findCornersOf}
-use Rattle.passes.specs.Outcomes.{Outcome as Passed}
+use Rattle.point.specs.Outcomes.{Outcome as Passed}
 use Rattle.pbm.specs.Calls.{Outcome as Read, Written}
 use Rattle.pbm.specs.declared.Picture.{Picture}
 use Rattle.pbm.specs.declared.Picture.the-variants as Picture
-use Rattle.reduce.specs.Calls.{Points, Numbered, Marked, Reduced}
-use Rattle.rounds.specs.Calls.{Outcome as Round}
-use Rattle.rounds.specs.declared.Subdivided.{Subdivided}
-use Rattle.rounds.specs.declared.Subdivided.the-variants as Subdivided
-use Rattle.walks.specs.Answers.{walkedNumber, walkedCount}
-use Rattle.walks.specs.Walk.{Outcome as Walk, walked as walkOf}
-use Rattle.walks.specs.declared.Walked.{Walked}
+use Rattle.reduce.specs.Reduce.{Points, Numbered, Marked, Reduced}
+use Rattle.smooth.specs.Calls.{Outcome as Round}
+use Rattle.smooth.specs.declared.Subdivided.{Subdivided}
+use Rattle.smooth.specs.declared.Subdivided.the-variants as Subdivided
+use Rattle.walker.specs.Answers.{walkedNumber, walkedCount}
+use Rattle.walker.specs.Walk.{Outcome as Walk, walked as walkOf}
+use Rattle.walker.specs.declared.Walked.{Walked}
 use Rattle.sandline_c.specs.Handed.{Counted, counted, passed, points, numbered, flagged, marked, reduced, walked, written, pictured, subdivided}
 use Rattle.sandline_c.specs.Read.{point, pair}
 

@@ -10,11 +10,11 @@ use borrow.Author.Needs.{needs}
 use borrow.Author.Tests.{eq-eqb, ne-eqb}
 use Rattle.laws.specs.Lists.{over, over-push-two}
 use Rattle.point.specs.declared.PointF64.{PointF64}
-use Rattle.refusals.specs.declared.Refusal.{Refusal}
-use Rattle.ratios.specs.Ratios.{outsideOf, insideOf, coincideOf}
-use Rattle.ratios.specs.declared.Intersection.{Intersection}
-use Rattle.ratios.specs.declared.Intersection.the-variants.{Parallel, Coincide, Cross, Refused}
-use Rattle.ratios.specs.Answers.{intersectionNumber, intersectionValues}
+use Rattle.point.specs.declared.refusal.Refusal.{Refusal}
+use Rattle.util.specs.Ratios.{outsideOf, insideOf, coincideOf}
+use Rattle.util.specs.declared.ratios.Intersection.{Intersection}
+use Rattle.util.specs.declared.ratios.Intersection.the-variants.{Parallel, Coincide, Cross, Refused}
+use Rattle.util.specs.Answers.{intersectionNumber, intersectionValues}
 use Rattle.sandline_c.specs.Handed.{Counted, Laid, laid, crossing}
 use Rattle.sandline_c.specs.Read.{placeAt, crossed}
 

@@ -9,26 +9,26 @@ use lib.Ieee.{Float}
 use lib.IntN.{ℤ, pos}
 use lib.ListN.{getD}
 use borrow.Author.Needs.{needs}
-use Rattle.refusals.specs.Refusals.{refusalNumber}
+use Rattle.point.specs.Refusals.{refusalNumber}
 use Rattle.point.specs.declared.PointF64.{PointF64}
 use Rattle.point.specs.declared.PointI32.{PointI32}
-use Rattle.refusals.specs.declared.Refusal.{Refusal}
-use Rattle.bitmap.specs.Answers.{cellsNumber, cellsCount}
-use Rattle.bitmap.specs.declared.Cells.{Cells}
-use Rattle.bitmap.specs.declared.Start.{Start}
-use Rattle.bitmap.specs.declared.Start.the-variants as Start
-use Rattle.measures.specs.Calls.{normOfI32}
-use Rattle.measures.specs.declared.Measure.{Measure}
-use Rattle.measures.specs.declared.Measure.the-variants as Measure
-use Rattle.measures.specs.declared.MidPoint.{MidPoint}
-use Rattle.measures.specs.declared.MidPoint.the-variants as MidPoint
-use Rattle.outline.specs.Points.{pointAt}
-use Rattle.spirals.specs.declared.Advanced.{Advanced}
-use Rattle.spirals.specs.declared.Advanced.the-variants as Advanced
-use Rattle.spirals.specs.declared.AdvancedOutcome.{AdvancedOutcome}
-use Rattle.spirals.specs.declared.Fresh.{Fresh}
-use Rattle.spirals.specs.declared.Fresh.the-variants as Fresh
-use Rattle.spirals.specs.declared.SpiralWalker.{SpiralWalker}
+use Rattle.point.specs.declared.refusal.Refusal.{Refusal}
+use Rattle.chart.specs.Answers.{cellsNumber, cellsCount}
+use Rattle.chart.specs.declared.Cells.{Cells}
+use Rattle.chart.specs.declared.Start.{Start}
+use Rattle.chart.specs.declared.Start.the-variants as Start
+use Rattle.util.specs.Measures.{normOfI32}
+use Rattle.util.specs.declared.Measure.{Measure}
+use Rattle.util.specs.declared.Measure.the-variants as Measure
+use Rattle.util.specs.declared.MidPoint.{MidPoint}
+use Rattle.util.specs.declared.MidPoint.the-variants as MidPoint
+use Rattle.point.specs.Points.{pointAt}
+use Rattle.spiral.specs.declared.Advanced.{Advanced}
+use Rattle.spiral.specs.declared.Advanced.the-variants as Advanced
+use Rattle.spiral.specs.declared.AdvancedOutcome.{AdvancedOutcome}
+use Rattle.spiral.specs.declared.Fresh.{Fresh}
+use Rattle.spiral.specs.declared.Fresh.the-variants as Fresh
+use Rattle.spiral.specs.declared.SpiralWalker.{SpiralWalker}
 use Rattle.util.specs.Area.{signedAreaOf}
 use Rattle.util.specs.declared.Signed.{Signed}
 use Rattle.util.specs.declared.Signed.the-variants as Signed

@@ -6,37 +6,35 @@ use lib.Ieee.{Float}
 use lib.IntN.{ℤ}
 use lib.ListN.{length}
 use Rattle.laws.specs.Lists.{over}
-use Rattle.refusals.specs.Refusals.{numberOf, countOf}
-use Rattle.refusals.specs.declared.Answer.{Answer}
-use Rattle.bitmap.specs.Answers.{cellsNumber, cellsCount, startNumber, startValues}
-use Rattle.bitmap.specs.declared.Cells.{Cells}
-use Rattle.bitmap.specs.declared.Start.{Start}
+use Rattle.point.specs.Refusals.{numberOf, countOf}
+use Rattle.point.specs.declared.refusal.Answer.{Answer}
+use Rattle.chart.specs.Answers.{cellsNumber, cellsCount, startNumber, startValues}
+use Rattle.chart.specs.declared.Cells.{Cells}
+use Rattle.chart.specs.declared.Start.{Start}
 use Rattle.corners.specs.Calls.{Outcome as Flagged}
-use Rattle.ratios.specs.Answers.{intersectionNumber, intersectionValues}
-use Rattle.ratios.specs.declared.Intersection.{Intersection}
-use Rattle.measures.specs.Answers.{midPointNumber, midPointValues, measureNumber, measureValues}
-use Rattle.measures.specs.declared.Measure.{Measure}
-use Rattle.measures.specs.declared.MidPoint.{MidPoint}
-use Rattle.passes.specs.Outcomes.{Outcome as Passed}
+use Rattle.util.specs.Answers.{intersectionNumber, intersectionValues, midPointNumber, midPointValues, measureNumber, measureValues, signedNumber, signedValues}
+use Rattle.util.specs.declared.ratios.Intersection.{Intersection}
+use Rattle.util.specs.declared.Measure.{Measure}
+use Rattle.util.specs.declared.MidPoint.{MidPoint}
+use Rattle.point.specs.Outcomes.{Outcome as Passed}
 use Rattle.pbm.specs.Answers.{pictureNumber}
 use Rattle.pbm.specs.Calls.{Outcome as Read, Written}
 use Rattle.pbm.specs.declared.Picture.{Picture}
 use Rattle.pbm.specs.declared.Picture.the-variants as Picture
-use Rattle.reduce.specs.Calls.{Points, Numbered, Marked, Reduced}
-use Rattle.rounds.specs.Answers.{subdividedNumber, subdividedCount}
-use Rattle.rounds.specs.Calls.{Outcome as Round}
-use Rattle.rounds.specs.declared.Subdivided.{Subdivided}
-use Rattle.rounds.specs.declared.Subdivided.the-variants as Subdivided
-use Rattle.spirals.specs.Answers.{freshNumber, advancedNumber, advancedValues}
-use Rattle.spirals.specs.declared.Advanced.{Advanced}
-use Rattle.spirals.specs.declared.AdvancedOutcome.{AdvancedOutcome}
-use Rattle.spirals.specs.declared.Fresh.{Fresh}
-use Rattle.spirals.specs.declared.Fresh.the-variants as Fresh
-use Rattle.spirals.specs.declared.SpiralWalker.{SpiralWalker}
-use Rattle.util.specs.Answers.{signedNumber, signedValues}
+use Rattle.reduce.specs.Reduce.{Points, Numbered, Marked, Reduced}
+use Rattle.smooth.specs.Answers.{subdividedNumber, subdividedCount}
+use Rattle.smooth.specs.Calls.{Outcome as Round}
+use Rattle.smooth.specs.declared.Subdivided.{Subdivided}
+use Rattle.smooth.specs.declared.Subdivided.the-variants as Subdivided
+use Rattle.spiral.specs.Answers.{freshNumber, advancedNumber, advancedValues}
+use Rattle.spiral.specs.declared.Advanced.{Advanced}
+use Rattle.spiral.specs.declared.AdvancedOutcome.{AdvancedOutcome}
+use Rattle.spiral.specs.declared.Fresh.{Fresh}
+use Rattle.spiral.specs.declared.Fresh.the-variants as Fresh
+use Rattle.spiral.specs.declared.SpiralWalker.{SpiralWalker}
 use Rattle.util.specs.declared.Signed.{Signed}
-use Rattle.walks.specs.Answers.{walkedNumber, walkedCount}
-use Rattle.walks.specs.Walk.{Outcome as Walk}
+use Rattle.walker.specs.Answers.{walkedNumber, walkedCount}
+use Rattle.walker.specs.Walk.{Outcome as Walk}
 use Rattle.sandline_c.specs.declared.spiralling.Begun.{Begun}
 
 -- ---- a number, a count of points, and what every buffer holds

@@ -8,11 +8,11 @@ use lib.ListN.{length, getD}
 use Rattle.laws.specs.If.{if_then_else_}
 use Rattle.point.specs.declared.PointI32.{PointI32}
 use Rattle.point.specs.declared.PointF64.{PointF64}
-use Rattle.bitmap.specs.declared.Chart.{Chart}
+use Rattle.chart.specs.declared.Chart.{Chart}
 use Rattle.corners.specs.declared.Pair.{Pair}
-use Rattle.ratios.specs.declared.Intersection.{Intersection}
-use Rattle.ratios.specs.declared.Intersection.the-variants.{Parallel, Coincide, Cross}
-use Rattle.scheme.specs.declared.Settings.{Settings}
+use Rattle.util.specs.declared.ratios.Intersection.{Intersection}
+use Rattle.util.specs.declared.ratios.Intersection.the-variants.{Parallel, Coincide, Cross}
+use Rattle.smooth.specs.declared.scheme.Settings.{Settings}
 
 abbrev pub chart : ℕ → ℕ → Chart
 chart width height = record { width = width; height = height }

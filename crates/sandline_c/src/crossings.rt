@@ -2,13 +2,13 @@
 ghost use Prim.Native.Nat.{_≤_};
 ghost use mathlib.Core.Path.{_≡_};
 ghost use lib.ListN.{length};
-ghost use Rattle.ratios.specs.Answers.{intersectionValues};
-ghost use Rattle.crossing.specs.Calls.{intersectionOf};
-ghost use Rattle.ratios.specs.Ratios.{outsideOf, insideOf, coincideOf};
+ghost use Rattle.util.specs.Answers.{intersectionValues};
+ghost use Rattle.util.specs.Crossing.{intersectionOf};
+ghost use Rattle.util.specs.Ratios.{outsideOf, insideOf, coincideOf};
 ghost use Rattle.sandline_c.specs.Handed.{laid, crossing};
 ghost use Rattle.sandline_c.specs.Read.{placeAt, crossed};
-use crossing::Intersection;
 use point::PointF64;
+use util::Intersection;
 
 // Where two lines cross, each given by two of its points, x, y, x, y: no values where they are parallel,
 // two, the midpoint of the first, where they coincide, and four, the point and both ratios, where they

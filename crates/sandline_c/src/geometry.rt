@@ -1,16 +1,16 @@
 // Roots, areas, midpoints and lengths.
 ghost use mathlib.Core.Path.{_≡_};
 ghost use lib.Ieee.{binary64, ofBits, toBits};
-ghost use Rattle.outline.specs.Points.{pointAt};
-ghost use Rattle.measures.specs.Calls.{middleOf, normOf, normOfI32};
+ghost use Rattle.point.specs.Points.{pointAt};
+ghost use Rattle.util.specs.Measures.{middleOf, normOf, normOfI32};
 ghost use Rattle.sqrt.specs.Root.{rootOf};
 ghost use Rattle.util.specs.Area.{signedAreaOf};
 ghost use Rattle.sandline_c.specs.Handed.{signed, midway, measured};
 ghost use Rattle.sandline_c.specs.Read.{point as pointOf, place, placeAt};
-use measures::Measure;
-use measures::MidPoint;
 use point::PointF64;
 use point::PointI32;
+use util::Measure;
+use util::MidPoint;
 use util::Signed;
 
 // The square root of a double.

@@ -1,7 +1,7 @@
 // What a caller in C is handed: a number, and the rest through what was lent.
 ghost use mathlib.Core.List.{[], _∷_};
 ghost use mathlib.Core.Path.{_≡_};
-ghost use Rattle.refusals.specs.Refusals.{numberOf, countOf};
+ghost use Rattle.point.specs.Refusals.{numberOf, countOf};
 use point::Answer;
 
 // The number of an answer, its count put where it was asked for.

@@ -1,11 +1,11 @@
 // Charts, walks and frames.
 ghost use mathlib.Core.Path.{_≡_};
-ghost use Rattle.bitmap.specs.Area.{areaOf};
-ghost use Rattle.bitmap.specs.Pixels.{pixelAt};
-ghost use Rattle.bitmap.specs.Start.{firstStart};
-ghost use Rattle.frames.specs.Reply.{answerTo};
+ghost use Rattle.chart.specs.Area.{areaOf};
+ghost use Rattle.chart.specs.Pixels.{pixelAt};
+ghost use Rattle.chart.specs.Start.{firstStart};
+ghost use Rattle.frames.specs.Answer.{answerTo};
 ghost use Rattle.texts.specs.Put.{put};
-ghost use Rattle.walks.specs.Walk.{walked as walkOf};
+ghost use Rattle.walker.specs.Walk.{walked as walkOf};
 ghost use Rattle.sandline_c.specs.Handed.{walked, started, celled};
 ghost use Rattle.sandline_c.specs.Read.{chart as chartOf, point as pointOf};
 use chart::Chart;

@@ -1,11 +1,11 @@
 // Corners, and one round of subdivision.
 ghost use mathlib.Core.Path.{_≡_};
 ghost use Rattle.corners.specs.Calls.{findCornersOf};
-ghost use Rattle.rounds.specs.Calls.{subdividedOf};
+ghost use Rattle.smooth.specs.Calls.{subdividedOf};
 ghost use Rattle.sandline_c.specs.Handed.{flagged, subdivided};
 ghost use Rattle.sandline_c.specs.Read.{pair, settings};
 use crate::handing::hand;
-use smooth::Pair;
+use corners::Pair;
 use smooth::Settings;
 use smooth::Subdivided;
 
@@ -23,7 +23,7 @@ pub extern "C" fn sandline_find_corners(
         ≡ flagged (findCornersOf (now (points .entry)) (pair c s) closed (now (flags .entry))) ⌝ }
 {
     hand(
-        smooth::find_corners(points, Pair { c: c, s: s }, closed, flags),
+        corners::find_corners(points, Pair { c: c, s: s }, closed, flags),
         count,
     )
 }

@@ -1,6 +1,6 @@
 // Spirals, in the caller's own struct.
 ghost use mathlib.Core.Path.{_≡_};
-ghost use Rattle.spirals.specs.Spiral.{freshSpiral, advanced};
+ghost use Rattle.spiral.specs.Spiral.{freshSpiral, advanced};
 ghost use Rattle.sandline_c.specs.Handed.{begun, stepped, advancedTo};
 use spiral::Advanced;
 use spiral::Fresh;

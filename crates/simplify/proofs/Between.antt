@@ -11,20 +11,19 @@ use lib.IntN.{ℤ}
 use lib.ListN.{length, take}
 use Rattle.laws.specs.Lists.{take-over-all}
 use Rattle.point.specs.Limits.{placesFor}
-use Rattle.point.specs.Points.{flat, points}
-use Rattle.refusals.specs.Refusals.{countOf}
-use Rattle.refusals.specs.declared.Answer.{Answer}
+use Rattle.point.specs.Points.{flat, points, count}
+use Rattle.point.specs.Refusals.{countOf}
+use Rattle.point.specs.declared.refusal.Answer.{Answer}
 use Rattle.point.specs.declared.PointI32.{PointI32}
-use Rattle.outline.specs.Points.{count}
-use Rattle.outline.proofs.Flat.{length-flat, length-points, count-flat}
-use Rattle.outline.proofs.Room.{places-shorter}
-use Rattle.passes.specs.Outcomes.{Outcome, refusal, verdict, outcome}
-use Rattle.passes.specs.declared.Verdict.{Verdict}
-use Rattle.passes.specs.declared.Verdict.the-variants.{Fine}
-use Rattle.passes.proofs.Verdicts.{few, good, places, not-refused}
-use Rattle.staircase.specs.Staircase.{removeStaircase, staircaseOf}
-use Rattle.staircase.proofs.Claims.{remove-staircase-fits}
-use Rattle.staircase.proofs.Outward.{staircase-shorter, staircase-good, staircase-places}
+use Rattle.point.proofs.Flat.{length-flat, length-points, count-flat}
+use Rattle.point.proofs.Room.{places-shorter}
+use Rattle.point.specs.Outcomes.{Outcome, refusal, verdict, outcome}
+use Rattle.point.specs.declared.refusal.Verdict.{Verdict}
+use Rattle.point.specs.declared.refusal.Verdict.the-variants.{Fine}
+use Rattle.point.proofs.Verdicts.{few, good, places, not-refused}
+use Rattle.simplify.specs.Staircase.{removeStaircase, staircaseOf}
+use Rattle.simplify.proofs.Claims.{remove-staircase-fits}
+use Rattle.simplify.proofs.Outward.{staircase-shorter, staircase-good, staircase-places}
 
 module _ (list : List ℤ) (clockwise : Bool) (v : Verdict) (room : ℕ) (says : v ≡ verdict (refusal list room)) (fine : v ≡ Fine) where
   abbrev left : List PointI32

@@ -1,2 +1,5 @@
-mod Between
 pub mod Claims
+pub mod Outward
+pub mod Reached
+pub mod Costly
+pub mod Between

@@ -1,4 +1,5 @@
--- What the crate promises: `Calls` says what each call answers.
-pub mod Calls
+pub mod Staircase
 pub mod Penalties
+pub mod Simplify
+pub mod inside
 pub mod Examples

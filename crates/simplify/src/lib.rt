@@ -1,28 +1,16 @@
-// Fewer points for a walked outline: first one-pixel staircases go, and then the points that it can
-// do without at little cost.
+// Fewer points for a walked outline: `remove_staircase` takes out one-pixel staircases, as a walk along pixels
+// leaves them, `limit_penalties` the points that it can do without at little cost, and `simplify` one after
+// the other.
 //
 // Lists of points are x, y, x, y, in lent slices; counts are points. Refusals are judged first, and
-// then nothing can fail. The list that stands between the two passes, 8,192 values, lies on the stack.
-ghost use mathlib.Core.Path.{_≡_};
-ghost use Rattle.simplify.specs.Calls.{simplifyOf};
-use passes::Verdict;
-use passes::judge;
-pub use penalties::limit_penalties;
-use point::Answer;
-pub use staircase::remove_staircase;
+// then nothing can fail.
+mod costs;
+mod paths;
+mod penalties;
+mod staircase;
+mod steps;
+mod triangle;
 
-// Puts the points that are left after both passes at the start of `out`. What the first leaves stands
-// in a list of its own.
-pub fn simplify(points: &[i32], clockwise: bool, out: &mut [i32]) -> Answer
-    ensures { λ r. ⌜ record { answer = r; out = now (out .exit) }
-        ≡ simplifyOf (now (points .entry)) clockwise (now (out .entry)) ⌝ }
-{
-    match judge(points, out.len()) {
-        Verdict::Refused(refusal) => Answer::Refused(refusal),
-        Verdict::Fine => {
-            let mut between = [0i32; 8192];
-            let kept = remove_staircase(points, clockwise, &mut between).count();
-            limit_penalties(&between[0..kept * 2], out)
-        }
-    }
-}
+pub use paths::simplify;
+pub use penalties::limit_penalties;
+pub use staircase::remove_staircase;

@@ -7,8 +7,8 @@ use lib.Ieee.{Float}
 use lib.ListN.{length, set, length-append, length-set}
 use Rattle.laws.specs.Lists.{over, over-push, over-push-two}
 use Rattle.point.specs.declared.PointF64.{PointF64}
-use Rattle.rounds.specs.Round.{flat}
-use Rattle.smooth.specs.Parts.{putPoints, putFlags}
+use Rattle.smooth.specs.Round.{flat}
+use Rattle.smooth.specs.inside.Parts.{putPoints, putFlags}
 
 pub length-flat : (ps : List PointF64) → length (flat ps) ≡ length ps * 2
 unfolding flat

@@ -1,21 +1,76 @@
--- What follows of the contract, for its readers and its callers. Assumes nothing.
+-- What follows of the contracts, for their readers and their callers. Assumes nothing.
+use mathlib.Core.Path.{_≡_, sym, _∙_, ap, refl}
+use denote.Ref.{now}
 use Prim.Native.Nat.{ℕ, _*_, _≤_}
 use mathlib.Core.Bool.{Bool}
 use mathlib.Core.List.{List}
 use mathlib.Core.Option.{Option, some, none}
-use mathlib.Core.Path.{_≡_, refl, sym, _∙_}
 use native.Mathlib.Omega.{arith}
 use lib.Ieee.{Float}
 use lib.ListN.{length}
-use denote.Ref.{now}
-use Rattle.refusals.specs.declared.Refusal.{Refusal}
-use Rattle.scheme.specs.declared.Settings.{Settings}
-use Rattle.rounds.specs.declared.Subdivided.the-variants.{Refused}
-use Rattle.round_refusals.specs.Judged.{seen, refusal}
-use Rattle.rounds.specs.Round.{roundOf}
-use Rattle.rounds.specs.Calls.{Outcome, outcome, subdividedOf}
+use Rattle.smooth.specs.Scheme.{skippedBy, placedBy}
+use Rattle.smooth.proofs.scheme.skipped.Reads.{Post as Skipped}
+use Rattle.smooth.proofs.scheme.placed.Reads.{Post as Placed}
+use Rattle.smooth.specs.Segments.{enteredBehind}
+use Rattle.smooth.proofs.segment.enter_behind.Reads.{Post as Enter-behind}
+use Rattle.smooth.specs.Judged.{refusal, verdict, seen}
+use Rattle.smooth.proofs.refusals.judge.Reads.{Post as Judge}
+use Rattle.smooth.specs.Answers.{subdividedNumber, subdividedCount, subdividedFinished}
+use Rattle.smooth.proofs.Subdivided.number.Reads.{Post as Number}
+use Rattle.smooth.proofs.Subdivided.count.Reads.{Post as Count}
+use Rattle.smooth.proofs.Subdivided.finished.Reads.{Post as Finished}
+use Rattle.point.specs.declared.refusal.Refusal.{Refusal}
+use Rattle.smooth.specs.declared.scheme.Settings.{Settings}
+use Rattle.smooth.specs.declared.Subdivided.the-variants.{Refused}
+use Rattle.smooth.specs.Round.{roundOf}
+use Rattle.smooth.specs.Calls.{Outcome, outcome, subdividedOf}
 use Rattle.smooth.proofs.Turns.{twice-at-most, flag-for-each}
-use Rattle.smooth.proofs.round.subdivide_keep_corners.Reads.{Post as Subdivide}
+use Rattle.smooth.proofs.subdivide.subdivide_keep_corners.Reads.{Post as Subdivide}
+
+-- ---- each contract leaves no choice: of equal arguments it allows one result. `Post` is the contract itself, as Rattle reads it off the source.
+
+pub skipped-determined : (κs : _) (a a′ : _) (r r′ : _) (s s′ : _) → Skipped κs a r s → Skipped κs a′ r′ s′ →
+    a .0 ≡ a′ .0 → a .1 .0 ≡ a′ .1 .0 → a .1 .1 .0 ≡ a′ .1 .1 .0 → a .1 .1 .1 .0 ≡ a′ .1 .1 .1 .0 → a .1 .1 .1 .1 .0 ≡ a′ .1 .1 .1 .1 .0 → r ≡ r′
+skipped-determined κs a a′ r r′ s s′ p q e f g h k =
+    let same : skippedBy (a .0) (a .1 .0) (a .1 .1 .0) (a .1 .1 .1 .0) (a .1 .1 .1 .1 .0) ≡ skippedBy (a′ .0) (a′ .1 .0) (a′ .1 .1 .0) (a′ .1 .1 .1 .0) (a′ .1 .1 .1 .1 .0) = rw (e, f, g, h, k) in
+    p ∙ same ∙ sym q
+
+pub placed-determined : (κs : _) (a a′ : _) (r r′ : _) (s s′ : _) → Placed κs a r s → Placed κs a′ r′ s′ →
+    a .0 ≡ a′ .0 → a .1 .0 ≡ a′ .1 .0 → a .1 .1 .0 ≡ a′ .1 .1 .0 → a .1 .1 .1 .0 ≡ a′ .1 .1 .1 .0 → a .1 .1 .1 .1 .0 ≡ a′ .1 .1 .1 .1 .0 → r ≡ r′
+placed-determined κs a a′ r r′ s s′ p q e f g h k =
+    let same : placedBy (a .0) (a .1 .0) (a .1 .1 .0) (a .1 .1 .1 .0) (a .1 .1 .1 .1 .0) ≡ placedBy (a′ .0) (a′ .1 .0) (a′ .1 .1 .0) (a′ .1 .1 .1 .0) (a′ .1 .1 .1 .1 .0) = rw (e, f, g, h, k) in
+    p ∙ same ∙ sym q
+
+-- the contract leaves no choice: of equal arguments it allows one result. `Post` is the contract itself, as Rattle reads it off the source.
+pub enter-behind-determined : (κs : _) (a a′ : _) (r r′ : _) (s s′ : _) → Enter-behind κs a r s → Enter-behind κs a′ r′ s′ →
+    now (a .0) ≡ now (a′ .0) → now (a .1 .0) ≡ now (a′ .1 .0) → a .1 .1 .0 ≡ a′ .1 .1 .0 → a .1 .1 .1 .0 ≡ a′ .1 .1 .1 .0 →
+    a .1 .1 .1 .1 .0 ≡ a′ .1 .1 .1 .1 .0 → r ≡ r′
+enter-behind-determined κs a a′ r r′ s s′ p q points corners settings closed i =
+    let same : enteredBehind (now (a .0)) (now (a .1 .0)) (a .1 .1 .0) (a .1 .1 .1 .0) (a .1 .1 .1 .1 .0)
+    ≡ enteredBehind (now (a′ .0)) (now (a′ .1 .0)) (a′ .1 .1 .0) (a′ .1 .1 .1 .0) (a′ .1 .1 .1 .1 .0)
+    = rw (points, corners, settings, closed, i) in
+    p ∙ same ∙ sym q
+
+-- the contract leaves no choice: of equal arguments it allows one verdict. `Post` is the contract itself, as Rattle reads it off the source.
+pub judge-determined : (κs : _) (a a′ : _) (r r′ : _) (s s′ : _) → Judge κs a r s → Judge κs a′ r′ s′ →
+    now (a .0) ≡ now (a′ .0) → now (a .1 .0) ≡ now (a′ .1 .0) → a .1 .1 .0 ≡ a′ .1 .1 .0 → a .1 .1 .1 .0 ≡ a′ .1 .1 .1 .0 →
+    a .1 .1 .1 .1 .0 ≡ a′ .1 .1 .1 .1 .0 → a .1 .1 .1 .1 .1 .0 ≡ a′ .1 .1 .1 .1 .1 .0 → r ≡ r′
+judge-determined κs a a′ r r′ s s′ p q points corners settings closed room flags =
+    let same : verdict (refusal (now (a .0)) (now (a .1 .0)) (a .1 .1 .0) (a .1 .1 .1 .0) (a .1 .1 .1 .1 .0) (a .1 .1 .1 .1 .1 .0))
+    ≡ verdict (refusal (now (a′ .0)) (now (a′ .1 .0)) (a′ .1 .1 .0) (a′ .1 .1 .1 .0) (a′ .1 .1 .1 .1 .0) (a′ .1 .1 .1 .1 .1 .0))
+    = rw (points, corners, settings, closed, room, flags) in
+    p ∙ same ∙ sym q
+
+-- Each contract leaves no choice: of equal arguments it allows one result. `Post` is the contract itself, as Rattle reads it off the source.
+
+pub number-determined : (κs : _) (a a′ : _) (r r′ : _) (s s′ : _) → Number κs a r s → Number κs a′ r′ s′ → a .0 ≡ a′ .0 → r ≡ r′
+number-determined κs a a′ r r′ s s′ p q e = p ∙ ap subdividedNumber e ∙ sym q
+
+pub count-determined : (κs : _) (a a′ : _) (r r′ : _) (s s′ : _) → Count κs a r s → Count κs a′ r′ s′ → a .0 ≡ a′ .0 → r ≡ r′
+count-determined κs a a′ r r′ s s′ p q e = p ∙ ap subdividedCount e ∙ sym q
+
+pub finished-determined : (κs : _) (a a′ : _) (r r′ : _) (s s′ : _) → Finished κs a r s → Finished κs a′ r′ s′ → a .0 ≡ a′ .0 → r ≡ r′
+finished-determined κs a a′ r r′ s s′ p q e = p ∙ ap subdividedFinished e ∙ sym q
 
 -- ---- the contract leaves no choice: of equal arguments it allows one answer, and one last content of both buffers. `Post` is the contract
 -- itself, as Rattle reads it off the source, at arguments `a`, a result `r` and parameters at exit `s`.

@@ -10,14 +10,14 @@ use lib.Ieee.{Float}
 use lib.ListN.{length, set, length-append}
 use Rattle.laws.specs.Lists.{over, over-nil}
 use Rattle.point.specs.declared.PointF64.{PointF64}
-use Rattle.scheme.specs.declared.Settings.{Settings}
-use Rattle.smooth.specs.declared.round.Step.{Step}
-use Rattle.rounds.specs.declared.Subdivided.the-variants.{Done}
-use Rattle.round_refusals.specs.Judged.{seen, roomFor}
-use Rattle.scheme.specs.Places.{placeAt}
-use Rattle.rounds.specs.Round.{flat, Made, madeFrom, roundOf, closing}
-use Rattle.rounds.specs.Calls.{handed}
-use Rattle.smooth.specs.Parts.{turnPoints, turnFlags, turnSettled, putPoints, putFlags, Turned}
+use Rattle.smooth.specs.declared.scheme.Settings.{Settings}
+use Rattle.smooth.specs.declared.subdivide.Step.{Step}
+use Rattle.smooth.specs.declared.Subdivided.the-variants.{Done}
+use Rattle.smooth.specs.Judged.{seen, roomFor}
+use Rattle.smooth.specs.Places.{placeAt}
+use Rattle.smooth.specs.Round.{flat, Made, madeFrom, roundOf, closing}
+use Rattle.smooth.specs.Calls.{handed}
+use Rattle.smooth.specs.inside.Parts.{turnPoints, turnFlags, turnSettled, putPoints, putFlags, Turned}
 use Rattle.smooth.proofs.Turns.{turn-fits, more-points, more-flags, more-finished, flag-each, twice-at-most, flag-for-each}
 use Rattle.smooth.proofs.Buffers.{points-behind, flags-behind}
 

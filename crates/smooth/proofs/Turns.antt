@@ -9,12 +9,12 @@ use lib.Ieee.{Float}
 use lib.ListN.{length, getD, length-append}
 use borrow.Author.Tests.{eq-eqb}
 use Rattle.point.specs.declared.PointF64.{PointF64}
-use Rattle.scheme.specs.declared.Settings.{Settings}
-use Rattle.scheme.specs.Places.{placeAt}
-use Rattle.segments.specs.Segments.{settled, after, enteringBehind}
-use Rattle.rounds.specs.Round.{Made, with-entered, madeFrom}
-use Rattle.round_refusals.specs.Judged.{roomFor}
-use Rattle.smooth.specs.Parts.{listOf, flagsOf, turnPoints, turnFlags, turnSettled}
+use Rattle.smooth.specs.declared.scheme.Settings.{Settings}
+use Rattle.smooth.specs.Places.{placeAt}
+use Rattle.smooth.specs.Segments.{settled, after, enteringBehind}
+use Rattle.smooth.specs.Round.{Made, with-entered, madeFrom}
+use Rattle.smooth.specs.Judged.{roomFor}
+use Rattle.smooth.specs.inside.Parts.{listOf, flagsOf, turnPoints, turnFlags, turnSettled}
 
 -- ---- the room
 

@@ -5,16 +5,16 @@ use mathlib.Core.List.{List}
 use mathlib.Core.Path.{_≡_}
 use lib.Ieee.{Float}
 use lib.ListN.{length}
-use Rattle.refusals.specs.declared.Refusal.{Refusal}
-use Rattle.scheme.specs.declared.Settings.{Settings}
-use Rattle.round_refusals.specs.Judged.{refusal, verdict}
-use Rattle.round_refusals.specs.declared.Verdict.{Verdict}
-use Rattle.round_refusals.specs.declared.Verdict.the-variants.{Fine, Refused as Refused′}
-use Rattle.round_refusals.proofs.Verdicts.{refused-is, fine-is}
-use Rattle.rounds.specs.declared.Subdivided.{Subdivided}
-use Rattle.rounds.specs.declared.Subdivided.the-variants.{Refused}
-use Rattle.rounds.specs.Round.{roundOf, closing}
-use Rattle.rounds.specs.Calls.{handed, subdividedOf}
+use Rattle.point.specs.declared.refusal.Refusal.{Refusal}
+use Rattle.smooth.specs.declared.scheme.Settings.{Settings}
+use Rattle.smooth.specs.Judged.{refusal, verdict}
+use Rattle.smooth.specs.declared.refusals.Verdict.{Verdict}
+use Rattle.smooth.specs.declared.refusals.Verdict.the-variants.{Fine, Refused as Refused′}
+use Rattle.smooth.proofs.Refused.{refused-is, fine-is}
+use Rattle.smooth.specs.declared.Subdivided.{Subdivided}
+use Rattle.smooth.specs.declared.Subdivided.the-variants.{Refused}
+use Rattle.smooth.specs.Round.{roundOf, closing}
+use Rattle.smooth.specs.Calls.{handed, subdividedOf}
 
 module _ (list : List Float) (corners : List ℕ) (settings : Settings) (closed : Bool) (out : List Float) (flags : List ℕ) (v : Verdict)
     (says : v ≡ verdict (refusal list corners settings closed (length out) (length flags))) where

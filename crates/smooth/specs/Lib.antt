@@ -1,2 +1,9 @@
--- What the parts of the crate give each other. `rounds` has what a round is, and what the call answers.
-pub mod Parts
+pub mod Scheme
+pub mod Places
+pub mod Segments
+pub mod Judged
+pub mod Calls
+pub mod Round
+pub mod Answers
+pub mod inside
+pub mod Examples

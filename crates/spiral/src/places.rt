@@ -2,8 +2,8 @@
 ghost use mathlib.Core.Path.{_≡_};
 ghost use mathlib.Core.Bool.{true};
 ghost use lib.IntN.{pos};
-ghost use Rattle.spirals.specs.Spiral.{between, sound, turned, goingX, goingY, longer, ahead, corner, onward};
-use spirals::SpiralWalker;
+ghost use Rattle.spiral.specs.Spiral.{between, sound, turned, goingX, goingY, longer, ahead, corner, onward};
+use crate::SpiralWalker;
 
 // One place on; at the end of a side, in the next direction.
 pub(crate) fn onward(s: SpiralWalker) -> SpiralWalker

@@ -1,14 +1,14 @@
 // The spiral: a square, cell by cell, from its centre outwards.
 ghost use mathlib.Core.Path.{_≡_};
-ghost use Rattle.spirals.specs.Spiral.{freshSpiral, spiralTurn, advanced, between, placed, paced, sound};
+ghost use Rattle.spiral.specs.Spiral.{freshSpiral, spiralTurn, advanced, between, placed, paced, sound};
+use crate::Advanced;
+use crate::AdvancedOutcome;
+use crate::Fresh;
+use crate::SpiralWalker;
+use crate::Turn;
 use crate::places::onward;
 use point::PointI32;
 use point::Refusal;
-use spirals::Advanced;
-use spirals::AdvancedOutcome;
-use spirals::Fresh;
-use spirals::SpiralWalker;
-use spirals::Turn;
 
 // The spiral of a square of `size` by `size`, before its first step.
 pub fn spiral(size: usize) -> Fresh

@@ -1,15 +1,17 @@
--- What follows of the contracts, for their readers and their callers. Assumes nothing.
+-- What follows of the contract, for its readers and its callers. Assumes nothing.
 use Prim.Native.Nat.{ℕ, _-_, _≤_, _<_}
-use mathlib.Core.Bool.{Bool, true, false}
 use mathlib.Core.List.{List, [], _∷_}
-use mathlib.Core.Path.{_≡_, refl, sym, ap, ap₂, _∙_}
+use mathlib.Core.Path.{_≡_, ap, ap₂, sym, _∙_, refl}
+use lib.IntN.{ℤ}
+use denote.Ref.{now}
+use mathlib.Core.Bool.{Bool, true, false}
 use native.Mathlib.Omega.{arith}
 use lib.Dec.{ltb}
-use lib.IntN.{ℤ}
 use lib.Ieee.{Float, inf}
 use lib.ListN.{length, length-append}
 use borrow.Author.Tests.{ltb-true, ltb-false}
-use denote.Ref.{now}
+use Rattle.split.specs.Farthest.{farthestIn}
+use Rattle.split.proofs.farthest.farthest.Reads.{Post as Farthest}
 use Rattle.laws.specs.Lists.{over}
 use Rattle.split.specs.Marks.{laid, markedOf, numberedOf}
 use Rattle.split.specs.Tree.{Tree, count, framed, tree, size, cut, down, marksOf, numbersOf}
@@ -17,8 +19,15 @@ use Rattle.split.proofs.Buffers.{laid-over}
 use Rattle.split.proofs.Cuts.{length-cut, length-down}
 use Rattle.split.proofs.Frames.{framed-many, framed-one}
 use Rattle.split.proofs.Trees.{span-size}
-use Rattle.split.proofs.marking.mark.Reads.{Post as Mark}
-use Rattle.split.proofs.numbering.number.Reads.{Post as Number}
+use Rattle.split.proofs.marks.mark.Reads.{Post as Mark}
+use Rattle.split.proofs.numbers.number.Reads.{Post as Number}
+
+-- the contract leaves no choice: of equal arguments it allows one answer. `Post` is the contract itself, as Rattle reads it off the source,
+-- at arguments `a`, a result `r` and parameters at exit `s`.
+pub farthest-determined : (κs : _) (a a′ : _) (r r′ : _) (s s′ : _) → Farthest κs a r s → Farthest κs a′ r′ s′
+    → now (a .0) ≡ now (a′ .0) → a .1 .0 ≡ a′ .1 .0 → a .1 .1 .0 ≡ a′ .1 .1 .0 → r ≡ r′
+farthest-determined κs a a′ r r′ s s′ p q points first last =
+    p ∙ ap₂ (λ (l : List ℤ) (f : ℕ). farthestIn l f (a .1 .1 .0)) points first ∙ ap (farthestIn (now (a′ .0)) (a′ .1 .0)) last ∙ sym q
 
 -- ---- each contract leaves no choice: of equal arguments it allows one last content of the buffer. `Post` is the contract itself, as Rattle
 -- reads it off the source, at arguments `a`, a result `r` and parameters at exit `s`.

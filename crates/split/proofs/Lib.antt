@@ -1,9 +1,10 @@
--- Laws, leaves first: `Claims` has what callers cite.
+pub mod Claims
+pub mod Distances
+pub mod Folds
+pub mod Spans
+pub mod Stores
+pub mod Buffers
+pub mod Cuts
+pub mod Frames
 pub mod Trees
 pub mod Signs
-pub mod Cuts
-pub mod Stores
-pub mod Spans
-pub mod Buffers
-pub mod Frames
-pub mod Claims

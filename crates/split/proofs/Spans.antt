@@ -17,8 +17,8 @@ use Rattle.laws.specs.Compare.{eq-is}
 use Rattle.laws.specs.Finite.{NonNeg, nonneg-number}
 use Rattle.laws.specs.Order.{at-least-zero, upper, lower, lt-is, lt-antisymmetric}
 use Rattle.laws.specs.Least.{least, least-cases}
-use Rattle.spans.specs.declared.span.Far.{Far}
-use Rattle.spans.specs.Distance.{zero64}
+use Rattle.split.specs.declared.farthest.Far.{Far}
+use Rattle.split.specs.Distance.{zero64}
 use Rattle.split.specs.Spans.{Distance, Split}
 use Rattle.split.specs.Tree.{Tree, node, spanTree, size, cut, down}
 use Rattle.split.proofs.Cuts.{length-cut, length-down, cut-kept, cut-dropped, down-from-least}

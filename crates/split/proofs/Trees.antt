@@ -10,9 +10,9 @@ use lib.Dec.{ltb}
 use lib.IntN.{ℤ}
 use lib.Ieee.{Float}
 use borrow.Author.Tests.{ltb-true, ltb-false, lt-ltb, le-ltb}
-use Rattle.spans.specs.declared.span.Far.{Far}
-use Rattle.spans.specs.Farthest.{distanceIn, farthest}
-use Rattle.spans.proofs.Folds.{far as farAt, farther-within}
+use Rattle.split.specs.declared.farthest.Far.{Far}
+use Rattle.split.specs.Farthest.{distanceIn, farthest}
+use Rattle.split.proofs.Folds.{far as farAt, farther-within}
 use Rattle.split.specs.Tree.{Tree, leaf, node, treeOf, spanTree, size}
 
 -- ---- every distance of a tree

@@ -6,8 +6,8 @@ use lib.Dec.{T}
 use lib.IntN.{ℤ}
 use lib.Ieee.{Float, binary64, fits}
 use Rattle.laws.specs.Finite.{NonNeg}
-use Rattle.spans.specs.declared.span.Far.{Far}
-use Rattle.spans.specs.Farthest.{farthest}
+use Rattle.split.specs.declared.farthest.Far.{Far}
+use Rattle.split.specs.Farthest.{farthest}
 
 -- what a point's number may be: a float of f64 with the sign +, +infinity too
 pub record Distance (x : Float) : Type 0 where

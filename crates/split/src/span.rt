@@ -1,8 +1,9 @@
 // Where a span is split.
 ghost use Prim.Native.Nat.{_+_, _<_};
-ghost use Rattle.outline.specs.Points.{count};
+ghost use Rattle.point.specs.Points.{count};
 ghost use Rattle.split.specs.Spans.{Split};
-use spans::Far;
+use crate::farthest;
+use crate::farthest::Far;
 
 // The splitting point of a span: the interior point that lies farthest from the segment between its
 // ends, the earliest of equals.
@@ -10,5 +11,5 @@ pub(crate) fn split_point(points: &[i32], first: usize, last: usize) -> Far
     requires { ⌜ (first + 1 < last) × (last < count (now points)) ⌝ }
     ensures { λ r. ⌜ Split (now (points .entry)) first last r ⌝ }
 {
-    spans::farthest(points, first, last)
+    farthest::farthest(points, first, last)
 }

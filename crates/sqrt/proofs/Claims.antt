@@ -6,10 +6,10 @@ use Rattle.sqrt.specs.Root.{rootOf}
 use Rattle.sqrt.proofs.root.sqrt.Reads as Sqrt
 use Rattle.sqrt.proofs.root.sqrt_bits.Reads as SqrtBits
 -- The definition: the root fits the format, no value of the format is nearer to the exact root, and that of an exact square is exact.
-pub use Rattle.roots.specs.Claims.{whole-root, whole-root-only, root-fits, in-units-exact, in-squares-exact, root-positive, no-value-nearer, no-tie, exact-square, root-not-negative}
+pub use Rattle.sqrt.proofs.nearest.Theorems.{whole-root, whole-root-only, root-fits, in-units-exact, in-squares-exact, root-positive, no-value-nearer, no-tie, exact-square, root-not-negative}
 -- What `sqrt_bits` answers to each of the 2^64 patterns: where its double is finite and not negative no pattern is nearer to the exact root, and then
 -- -0, +infinity and all others.
-pub use Rattle.roots.specs.Claims.{rootBits, sizeOf, answers-the-root, above-zero, other-patterns-farther, no-pattern-nearer, root-of-minus-zero, root-of-infinity, root-of-no-number}
+pub use Rattle.sqrt.proofs.nearest.Theorems.{rootBits, sizeOf, answers-the-root, above-zero, other-patterns-farther, no-pattern-nearer, root-of-minus-zero, root-of-infinity, root-of-no-number}
 
 -- Each contract leaves no choice: equal arguments allow one result. `Post` is the contract itself, as Rattle reads it off the source, at
 -- arguments `a`, a result `r` and parameters at exit `s`.

@@ -6,28 +6,24 @@ use mathlib.Core.Path.{_≡_, ap, _∙_}
 use native.Mathlib.Omega.{arith}
 use lib.IntN.{ℤ}
 use lib.ListN.{length, take, length-append, length-take}
-use Rattle.refusals.specs.Refusals.{refusalNumber}
-use Rattle.bitmap.specs.Start.{firstStart}
-use Rattle.bitmap.specs.declared.Chart.{Chart}
-use Rattle.bitmap.specs.declared.Start.{Start}
-use Rattle.bitmap.specs.declared.Start.the-variants as Start
-use Rattle.walks.specs.Answers.{walkedNumber, walkedCount}
-use Rattle.simplify.specs.Calls.{simplifyOf}
-use Rattle.reduce.specs.Calls.{numberedOf}
+use Rattle.point.specs.Refusals.{refusalNumber}
+use Rattle.chart.specs.Start.{firstStart}
+use Rattle.chart.specs.declared.Chart.{Chart}
+use Rattle.chart.specs.declared.Start.{Start}
+use Rattle.chart.specs.declared.Start.the-variants as Start
+use Rattle.walker.specs.Answers.{walkedNumber, walkedCount}
+use Rattle.simplify.specs.Simplify.{simplifyOf}
+use Rattle.reduce.specs.Reduce.{numberedOf}
 use Rattle.texts.specs.Put.{Outcome, put}
-use Rattle.texts.proofs.Pieces.{put-fits}
+use Rattle.texts.proofs.Pieces.{put-fits, put-then}
 use Rattle.lines.specs.Turns.{line}
-use Rattle.replies.specs.Reply.{pointsText}
-use Rattle.replies.specs.Room.{room, numberRoom}
-use Rattle.texts.proofs.Pieces.{put-then}
-use Rattle.replies.proofs.Parts.{from-start, points-short}
-use Rattle.replies.proofs.Sizes.{length-points}
-use Rattle.walk_reply.specs.Reply.{walkReply}
-use Rattle.walk_reply.proofs.Room.{walk-counts}
-use Rattle.simplify_reply.specs.Reply.{simplifyReply}
-use Rattle.simplify_reply.proofs.Claims.{simplified-short}
-use Rattle.reduce_reply.specs.Reply.{numbersReply}
-use Rattle.reduce_reply.proofs.Claims.{numbered-short}
+use Rattle.frames.specs.Replies.{pointsText}
+use Rattle.frames.specs.Room.{room, numberRoom}
+use Rattle.frames.proofs.Parts.{from-start, points-short}
+use Rattle.frames.proofs.Sizes.{length-points}
+use Rattle.frames.specs.Calls.{walkReply, simplifyReply, numbersReply}
+use Rattle.frames.proofs.Room.{walk-counts}
+use Rattle.frames.proofs.Claims.{simplified-short, numbered-short}
 use Rattle.pbm.specs.Calls.{readOf}
 use Rattle.pbm.specs.declared.Picture.{Picture}
 use Rattle.pbm.specs.declared.Picture.the-variants as Picture

@@ -6,14 +6,14 @@ use lib.Ieee.{ofInt, add, sub, mul, div, lt, le, toBits}
 use Rattle.laws.specs.Lists.{over}
 use Rattle.point.specs.Limits.{badList}
 use Rattle.point.specs.Points.{flat}
-use Rattle.bitmap.specs.Pixels.{badChart, pixelAt}
-use Rattle.bitmap.specs.Start.{firstStart}
-use Rattle.walks.specs.Walk.{walked}
-use Rattle.penalties.specs.Penalties.{penalty}
-use Rattle.simplify.specs.Calls.{simplifyOf}
-use Rattle.reduce.specs.Calls.{numberedOf}
+use Rattle.chart.specs.Pixels.{badChart, pixelAt}
+use Rattle.chart.specs.Start.{firstStart}
+use Rattle.walker.specs.Walk.{walked}
+use Rattle.simplify.specs.Penalties.{penalty}
+use Rattle.simplify.specs.Simplify.{simplifyOf}
+use Rattle.reduce.specs.Reduce.{numberedOf}
 use Rattle.texts.specs.Text.{lowDigits}
-use Rattle.replies.specs.Reply.{pointsText, numbersText}
+use Rattle.frames.specs.Replies.{pointsText, numbersText}
 use Rattle.pbm.specs.Calls.{readOf}
 use Rattle.survey.specs.Survey.{threeLines, surveyText, whole, stepOf}
 use Rattle.survey.specs.declared.step.Turn.the-variants.{Read}

@@ -7,21 +7,19 @@ use lib.IntN.{ℤ}
 use lib.ListN.{length, take, replicate}
 use Rattle.laws.specs.If.{if_then_else_}
 use Rattle.laws.specs.Lists.{over}
-use Rattle.refusals.specs.Refusals.{refusalNumber, countOf}
-use Rattle.bitmap.specs.Start.{firstStart}
-use Rattle.bitmap.specs.declared.Chart.{Chart}
-use Rattle.bitmap.specs.declared.Start.{Start}
-use Rattle.bitmap.specs.declared.Start.the-variants as Start
-use Rattle.walks.specs.Answers.{walkedCount}
-use Rattle.walks.specs.Walk as Walk
-use Rattle.walks.specs.declared.Walked.the-variants as Walked
-use Rattle.simplify.specs.Calls as Simplify
-use Rattle.reduce.specs.Calls.{numberedOf}
-use Rattle.replies.specs.Reply.{pointsText}
-use Rattle.replies.specs.Room.{room, numberRoom}
-use Rattle.walk_reply.specs.Reply.{walkReply}
-use Rattle.simplify_reply.specs.Reply.{simplifyReply}
-use Rattle.reduce_reply.specs.Reply.{numbersReply}
+use Rattle.point.specs.Refusals.{refusalNumber, countOf}
+use Rattle.chart.specs.Start.{firstStart}
+use Rattle.chart.specs.declared.Chart.{Chart}
+use Rattle.chart.specs.declared.Start.{Start}
+use Rattle.chart.specs.declared.Start.the-variants as Start
+use Rattle.walker.specs.Answers.{walkedCount}
+use Rattle.walker.specs.Walk as Walk
+use Rattle.walker.specs.declared.Walked.the-variants as Walked
+use Rattle.simplify.specs.Simplify as Simplify
+use Rattle.reduce.specs.Reduce.{numberedOf}
+use Rattle.frames.specs.Replies.{pointsText}
+use Rattle.frames.specs.Room.{room, numberRoom}
+use Rattle.frames.specs.Calls.{walkReply, simplifyReply, numbersReply}
 use Rattle.lines.specs.Turns.{line}
 use Rattle.pbm.specs.Calls as Pbm
 use Rattle.pbm.specs.declared.Picture.{Picture}

@@ -2,17 +2,17 @@
 ghost use Prim.Native.Nat.{_+_, _≤_};
 ghost use mathlib.Core.Path.{_≡_};
 ghost use lib.ListN.{length};
-ghost use Rattle.refusals.specs.Refusals.{refusalNumber};
+ghost use Rattle.point.specs.Refusals.{refusalNumber};
 ghost use Rattle.texts.specs.Put.{put};
 ghost use Rattle.lines.specs.Turns.{line};
-ghost use Rattle.reduce.specs.Calls.{numberedOf};
-ghost use Rattle.replies.specs.Reply.{pointsText};
-ghost use Rattle.replies.specs.Room.{numberRoom};
-ghost use Rattle.reduce_reply.specs.Reply.{numbersReply};
+ghost use Rattle.reduce.specs.Reduce.{numberedOf};
+ghost use Rattle.frames.specs.Replies.{pointsText};
+ghost use Rattle.frames.specs.Room.{numberRoom};
+ghost use Rattle.frames.specs.Calls.{numbersReply};
 ghost use Rattle.survey.specs.Survey.{outlineOf, twoLines, threeLines, refusedLine};
 use chart::Chart;
 use chart::Start;
-use refusals::Refusal;
+use point::Refusal;
 use walker::Walked;
 
 // Puts the three lines of a chart at the start of the output, and answers how many bytes they have.
@@ -67,7 +67,7 @@ fn put_numbers(list: &[i32], output: &mut [u8], at: usize) -> usize
     ensures { λ r. ⌜ record { next = r; out = now (output .exit) }
         ≡ put (line (numbersReply (numberedOf (now (list .entry)) numberRoom))) (now (output .entry)) at ⌝ }
 {
-    let behind = reduce_reply::put_numbered(list, output, at);
+    let behind = frames::put_numbered(list, output, at);
     texts::put_byte(b'\n', output, behind)
 }
 
@@ -77,6 +77,6 @@ fn put_points(kind: u8, number: u8, values: &[i32], output: &mut [u8], at: usize
     ensures { λ r. ⌜ record { next = r; out = now (output .exit) }
         ≡ put (line (pointsText kind number (now (values .entry)))) (now (output .entry)) at ⌝ }
 {
-    let end = replies::put_points(kind, number, values, output, at);
+    let end = frames::put_points(kind, number, values, output, at);
     texts::put_byte(b'\n', output, end)
 }

@@ -10,18 +10,18 @@ use lib.ListN.{replicate}
 use Rattle.laws.specs.Integers.{in-range}
 use Rattle.point.specs.Limits.{badList, inRange}
 use Rattle.point.specs.Points.{flat}
-use Rattle.refusals.specs.declared.Answer.the-variants as Answer
+use Rattle.point.specs.declared.refusal.Answer.the-variants as Answer
 use Rattle.point.specs.declared.PointI32.{PointI32}
-use Rattle.bitmap.specs.Pixels.{badChart, pixelAt}
-use Rattle.bitmap.specs.declared.Chart.{Chart}
-use Rattle.walks.specs.Walk.{walked}
-use Rattle.walks.specs.declared.Walked.the-variants as Walked
-use Rattle.spirals.specs.Spiral.{pointsOf, spiralPoints}
+use Rattle.chart.specs.Pixels.{badChart, pixelAt}
+use Rattle.chart.specs.declared.Chart.{Chart}
+use Rattle.walker.specs.Walk.{walked}
+use Rattle.walker.specs.declared.Walked.the-variants as Walked
+use Rattle.spiral.specs.Spiral.{pointsOf, spiralPoints}
 use Rattle.simplify.specs.Penalties.{penalty}
-use Rattle.simplify.specs.Calls.{staircaseOf, penaltiesOf, simplifyOf}
+use Rattle.simplify.specs.Simplify.{staircaseOf, penaltiesOf, simplifyOf}
 use Rattle.split.specs.Distance.{sqSegDist}
 use Rattle.reduce.specs.Distance.{sqDist}
-use Rattle.reduce.specs.Calls.{radialOf, douglasPeuckerOf, reduceOf, numberedOf}
+use Rattle.reduce.specs.Reduce.{radialOf, douglasPeuckerOf, reduceOf, numberedOf}
 
 -- ---- how a line is read
 

@@ -1,3 +1,3 @@
-pub mod Products
-pub mod ByBits
 pub mod Claims
+pub mod ByBits
+pub mod Products

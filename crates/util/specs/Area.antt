@@ -3,10 +3,10 @@ use mathlib.Core.Bool.{Bool, not, _&&_}
 use mathlib.Core.Option.{Option, some, none}
 use lib.IntN.{ℤ, _-ℤ_, _*ℤ_}
 use Rattle.point.specs.Limits.{inRange}
-use Rattle.refusals.specs.Refusals.{refuse_when_or_}
+use Rattle.point.specs.Refusals.{refuse_when_or_}
 use Rattle.point.specs.declared.PointI32.{PointI32}
-use Rattle.refusals.specs.declared.Refusal.{Refusal}
-use Rattle.refusals.specs.declared.Refusal.the-variants.{BadPoint}
+use Rattle.point.specs.declared.refusal.Refusal.{Refusal}
+use Rattle.point.specs.declared.refusal.Refusal.the-variants.{BadPoint}
 use Rattle.util.specs.declared.Signed.{Signed}
 use Rattle.util.specs.declared.Signed.the-variants.{Area, Refused}
 

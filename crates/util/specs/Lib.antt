@@ -1,5 +1,10 @@
--- What the crate promises: `Area` has the signed area of three points, `Answers` the number and values of an answer. `Near` is what its parts ask of a point.
+pub mod Lengths
+pub mod Measures
+pub mod Answers
+pub mod Ratios
+pub mod Crossing
+pub mod Lines
+pub mod Along
 pub mod Near
 pub mod Area
-pub mod Answers
 pub mod Examples

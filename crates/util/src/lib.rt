@@ -1,23 +1,62 @@
 // Signed area, midpoint, norm and the crossing of two lines.
 //
-// The cross product and the area stand here, the midpoint and the norm, which have fractions, in `measures`,
-// and the crossing in `crossing`.
-mod turning;
+// The calls refuse a coordinate out of range. `cross`, `middle` and `length`, on which other crates build,
+// take any.
+mod area;
+mod crossing;
+mod lengths;
+mod ratios;
 
 ghost use mathlib.Core.Path.{_≡_};
-ghost use Rattle.util.specs.Answers.{signedNumber};
-pub use crossing::Intersection;
+ghost use Rattle.util.specs.Answers.{midPointNumber, measureNumber, signedNumber};
+pub use area::cross;
+pub use area::signed_area;
 pub use crossing::find_intersection;
-pub use measures::Measure;
-pub use measures::MidPoint;
-pub use measures::find_mid_point;
-pub use measures::length;
-pub use measures::middle;
-pub use measures::norm;
-pub use measures::norm_i32;
+pub use lengths::find_mid_point;
+pub use lengths::fine;
+pub use lengths::length;
+pub use lengths::middle;
+pub use lengths::norm;
+pub use lengths::norm_i32;
+use point::PointF64;
 use point::Refusal;
-pub use turning::cross;
-pub use turning::signed_area;
+pub use ratios::Intersection;
+
+// The midpoint of two points.
+pub enum MidPoint {
+    At(PointF64),
+    Refused(Refusal),
+}
+
+// The length of a vector.
+pub enum Measure {
+    Is(f64),
+    Refused(Refusal),
+}
+
+impl MidPoint {
+    // Document 01's number.
+    pub fn number(self) -> u8
+        ensures { λ r. ⌜ r ≡ midPointNumber self ⌝ }
+    {
+        match self {
+            MidPoint::At(_) => 0,
+            MidPoint::Refused(refusal) => refusal.number(),
+        }
+    }
+}
+
+impl Measure {
+    // Document 01's number.
+    pub fn number(self) -> u8
+        ensures { λ r. ⌜ r ≡ measureNumber self ⌝ }
+    {
+        match self {
+            Measure::Is(_) => 0,
+            Measure::Refused(refusal) => refusal.number(),
+        }
+    }
+}
 
 // The signed area of three points.
 pub enum Signed {

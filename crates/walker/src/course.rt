@@ -4,18 +4,18 @@ ghost use mathlib.Core.Bool.{false, not, _&&_};
 ghost use mathlib.Core.Path.{_≡_};
 ghost use lib.ListN.{length, set};
 ghost use Rattle.point.specs.Limits.{inRange};
-ghost use Rattle.bitmap.specs.Pixels.{badChart};
-ghost use Rattle.walks.specs.Walk.{walked};
-ghost use Rattle.walks.specs.Course.{OnEdge, rest, placeOf, counted, HasRoom, written};
-use crate::stretch::is_on;
-use crate::stretch::run;
-use crate::ways::NONE;
-use crate::ways::way_in;
+ghost use Rattle.chart.specs.Pixels.{badChart};
+ghost use Rattle.walker.specs.Walk.{walked};
+ghost use Rattle.walker.specs.inside.Course.{OnEdge, rest, placeOf, counted, HasRoom, written};
+use crate::Place;
+use crate::Walked;
+use crate::exits::NONE;
+use crate::exits::way_in;
+use crate::run::is_on;
+use crate::run::run;
 use chart::Chart;
 use point::PointI32;
 use point::Refusal;
-use walks::Place;
-use walks::Walked;
 
 // After a run, a walk of more steps than these is stuck.
 const LIMIT: u32 = 1000000;

@@ -1,7 +1,53 @@
-// Whole walks along the outline of a chart. What an outline is, is defined in `walks`.
+// Whole walks along the outline of a chart.
 mod course;
-mod stretch;
-mod ways;
+mod exits;
+mod run;
 
+ghost use mathlib.Core.Path.{_≡_};
+ghost use Rattle.walker.specs.Answers.{walkedNumber, walkedCount};
 pub use course::walk;
-pub use walks::Walked;
+use point::Refusal;
+
+// What a walk answers: how many points its outline has, or why there is none.
+pub enum Walked {
+    Done(usize),
+    // No direction at the start is an exit.
+    NoWay,
+    // After some run the walk has over 1,000,000 steps.
+    Stuck,
+    Refused(Refusal),
+}
+
+impl Walked {
+    // The answer's number in document 01: 0 when it is done.
+    pub fn number(self) -> u8
+        ensures { λ r. ⌜ r ≡ walkedNumber self ⌝ }
+    {
+        match self {
+            Walked::Done(_) => 0,
+            Walked::NoWay => 8,
+            Walked::Stuck => 9,
+            Walked::Refused(refusal) => refusal.number(),
+        }
+    }
+
+    // How many points its outline has: none when there is no outline.
+    pub fn count(self) -> usize
+        ensures { λ r. ⌜ r ≡ walkedCount self ⌝ }
+    {
+        match self {
+            Walked::Done(points) => points,
+            Walked::NoWay => 0,
+            Walked::Stuck => 0,
+            Walked::Refused(_) => 0,
+        }
+    }
+}
+
+// Where a walk stands, the exit that it takes from there, and how many steps it has made.
+pub struct Place {
+    pub x: i32,
+    pub y: i32,
+    pub way: u8,
+    pub steps: u32,
+}

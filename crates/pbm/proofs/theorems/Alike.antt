@@ -6,9 +6,9 @@ use mathlib.Core.Option.{Option, some, none}
 use mathlib.Core.Path.{_≡_, refl}
 use lib.Dec.{ltb}
 use lib.ListN.{length}
-use Rattle.refusals.specs.declared.Refusal.the-variants.{BadPicture}
-use Rattle.bitmap.specs.Pixels.{rowBytes}
-use Rattle.bitmap.specs.declared.Chart.{Chart}
+use Rattle.point.specs.declared.refusal.Refusal.the-variants.{BadPicture}
+use Rattle.chart.specs.Pixels.{rowBytes}
+use Rattle.chart.specs.declared.Chart.{Chart}
 use Rattle.pbm.specs.Header.{Header, headerIn}
 use Rattle.pbm.specs.Raster.{Image, imageIn}
 use Rattle.pbm.specs.Calls.{Outcome, refused, laid, readBehind, readOf}

@@ -9,9 +9,9 @@ use lib.Dec.{ltb}
 use lib.ListN.{length, take, drop, length-append, take-append-drop}
 use lib.Seq.{take-at}
 use Rattle.laws.specs.Joined.{both-false}
-use Rattle.bitmap.specs.Pixels.{rowBytes, side}
-use Rattle.bitmap.specs.declared.Chart.{Chart}
-use Rattle.bitmap.proofs.Sizes.{side-within}
+use Rattle.chart.specs.Pixels.{rowBytes, side}
+use Rattle.chart.specs.declared.Chart.{Chart}
+use Rattle.chart.proofs.Sizes.{side-within}
 use Rattle.pbm.specs.Header.{headerIn}
 use Rattle.pbm.specs.Raster.{Image, imageIn}
 use Rattle.pbm.specs.Bytes.{chartBytes}

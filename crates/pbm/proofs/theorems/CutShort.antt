@@ -5,8 +5,8 @@ use mathlib.Core.Path.{_≡_, ap}
 use native.Mathlib.Omega.{arith}
 use lib.ListN.{length, take, drop, take-append-drop}
 use lib.Seq.{length-take-le}
-use Rattle.refusals.specs.declared.Refusal.{Refusal}
-use Rattle.bitmap.specs.declared.Chart.{Chart}
+use Rattle.point.specs.declared.refusal.Refusal.{Refusal}
+use Rattle.chart.specs.declared.Chart.{Chart}
 use Rattle.pbm.specs.Calls.{Outcome, refused, readOf}
 use Rattle.pbm.specs.declared.Picture.the-variants as Picture
 use Rattle.pbm.proofs.theorems.Told.{Told, told-refused, told-read, told}

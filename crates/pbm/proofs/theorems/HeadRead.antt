@@ -4,7 +4,7 @@ use mathlib.Core.Bool.{Bool, true, false}
 use mathlib.Core.List.{List, [], _∷_, _++_, append-assoc}
 use mathlib.Core.Option.{some}
 use mathlib.Core.Path.{_≡_, refl, ap, _∙_}
-use Rattle.bitmap.specs.declared.Chart.{Chart}
+use Rattle.chart.specs.declared.Chart.{Chart}
 use Rattle.texts.specs.Text.{naturalText}
 use Rattle.pbm.specs.Header.{white, hash, digit, sizesIn, headerIn}
 use Rattle.pbm.proofs.theorems.Numerals.{size-read}

@@ -9,8 +9,8 @@ use native.Mathlib.Nat.{mul-pos}
 use native.Mathlib.Omega.{arith}
 use lib.ListN.{length, take, drop, length-append, take-append-drop, List·getD-append}
 use lib.Seq.{length-take-le, drop-at}
-use Rattle.bitmap.specs.Pixels.{rowBytes, cell, bitOf}
-use Rattle.bitmap.specs.declared.Chart.{Chart}
+use Rattle.chart.specs.Pixels.{rowBytes, cell, bitOf}
+use Rattle.chart.specs.declared.Chart.{Chart}
 use Rattle.pbm.specs.Header.{white, lineEnd, hash, Header, pastLine, rasterIn}
 use Rattle.pbm.specs.Raster.{Image, rawIn, Sign, blank, pixel, wrong, signOf, Digits, onto, digitsIn, rowsOf, plainIn, imageIn}
 use Rattle.pbm.specs.Bytes.{chartBytes}

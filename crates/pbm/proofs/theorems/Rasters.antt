@@ -8,8 +8,8 @@ use native.Mathlib.Omega.{arith}
 use lib.Dec.{eqb}
 use lib.ListN.{length, getD, drop, length-append, List·getD-map}
 use lib.Seq.{drop-at}
-use Rattle.bitmap.specs.Pixels.{rowBytes, cell, one}
-use Rattle.bitmap.specs.declared.Chart.{Chart}
+use Rattle.chart.specs.Pixels.{rowBytes, cell, one}
+use Rattle.chart.specs.declared.Chart.{Chart}
 use Rattle.pbm.specs.Header.{white, rasterIn}
 use Rattle.pbm.specs.Raster.{Image, onto, digitsIn, rowsOf, plainIn, imageIn}
 use Rattle.pbm.specs.Bytes.{listed, chartBytes}

@@ -7,8 +7,8 @@ use mathlib.Core.Path.{_≡_, refl, sym, ap, _∙_}
 use native.Mathlib.Omega.{arith}
 use lib.ListN.{length, length-append}
 use Rattle.laws.specs.Lists.{over}
-use Rattle.bitmap.specs.Pixels.{rowBytes, side}
-use Rattle.bitmap.specs.declared.Chart.{Chart}
+use Rattle.chart.specs.Pixels.{rowBytes, side}
+use Rattle.chart.specs.declared.Chart.{Chart}
 use Rattle.pbm.specs.Header.{Header, headerIn}
 use Rattle.pbm.specs.Raster.{Image, imageIn}
 use Rattle.pbm.specs.Bytes.{chartBytes}

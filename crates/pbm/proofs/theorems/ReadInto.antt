@@ -8,8 +8,8 @@ use lib.ListN.{length}
 use borrow.Author.Tests.{le-ltb, ltb-false, not-false}
 use Rattle.laws.specs.Joined.{both-false}
 use Rattle.laws.specs.Lists.{over, length-over}
-use Rattle.bitmap.specs.Pixels.{rowBytes, side, badChart}
-use Rattle.bitmap.specs.declared.Chart.{Chart}
+use Rattle.chart.specs.Pixels.{rowBytes, side, badChart}
+use Rattle.chart.specs.declared.Chart.{Chart}
 use Rattle.pbm.specs.Bytes.{chartBytes}
 use Rattle.pbm.specs.Calls.{Outcome, readOf}
 use Rattle.pbm.specs.declared.Picture.the-variants.{Read}

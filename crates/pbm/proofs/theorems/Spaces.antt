@@ -4,7 +4,7 @@ use mathlib.Core.Bool.{Bool, true, false}
 use mathlib.Core.List.{List, [], _∷_, _++_}
 use mathlib.Core.Option.{Option, some, none}
 use mathlib.Core.Path.{_≡_, refl, sym, ap, _∙_}
-use Rattle.bitmap.specs.declared.Chart.{Chart}
+use Rattle.chart.specs.declared.Chart.{Chart}
 use Rattle.pbm.specs.Header.{white, Header}
 use Rattle.pbm.specs.Raster.{Sign, blank, pixel, wrong, signOf, Digits, onto, digitsIn, rowsOf, plainIn, imageIn}
 use Rattle.pbm.specs.Calls.{readOf}

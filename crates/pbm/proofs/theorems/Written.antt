@@ -8,11 +8,11 @@ use native.Mathlib.Omega.{arith}
 use lib.Dec.{ltb}
 use lib.ListN.{length}
 use Rattle.laws.specs.Lists.{over}
-use Rattle.refusals.specs.Refusals.{refuse_when_or_}
-use Rattle.refusals.specs.declared.Answer.the-variants.{Done}
-use Rattle.refusals.specs.declared.Refusal.the-variants.{BadSize, NoRoom}
-use Rattle.bitmap.specs.Pixels.{badChart}
-use Rattle.bitmap.specs.declared.Chart.{Chart}
+use Rattle.point.specs.Refusals.{refuse_when_or_}
+use Rattle.point.specs.declared.refusal.Answer.the-variants.{Done}
+use Rattle.point.specs.declared.refusal.Refusal.the-variants.{BadSize, NoRoom}
+use Rattle.chart.specs.Pixels.{badChart}
+use Rattle.chart.specs.declared.Chart.{Chart}
 use Rattle.pbm.specs.Calls.{pictureText, written, writtenOf}
 
 module _ (c : Chart) (pixels out : List ℕ) where

@@ -4,7 +4,7 @@ use mathlib.Core.Bool.{Bool, true, false}
 use mathlib.Core.List.{List, []}
 use mathlib.Core.Option.{Option, some, none}
 use lib.ListN.{length, drop}
-use Rattle.bitmap.specs.declared.Chart.{Chart}
+use Rattle.chart.specs.declared.Chart.{Chart}
 use Rattle.pbm.specs.Header.{Number, Header}
 use Rattle.pbm.specs.Raster.{Image, Digits, rawIn, plainIn}
 use Rattle.pbm.specs.declared.header.Header as Read

@@ -4,7 +4,7 @@ use mathlib.Core.Bool.{Bool, true, false, _&&_}
 use native.Mathlib.Omega.{arith}
 use lib.Dec.{ltb}
 use borrow.Author.Needs.{needs}
-use Rattle.bitmap.specs.Pixels.{one}
+use Rattle.chart.specs.Pixels.{one}
 use Rattle.survey.proofs.fed.Statement.{statement}
 use Rattle.survey.proofs.fed.Tie as tie
 

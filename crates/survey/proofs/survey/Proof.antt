@@ -7,7 +7,7 @@ use native.Mathlib.Omega.{arith}
 use lib.ListN.{length}
 use borrow.Author.Needs.{needs}
 use Rattle.laws.specs.If.{if-cases}
-use Rattle.bitmap.specs.Pixels.{one}
+use Rattle.chart.specs.Pixels.{one}
 use Rattle.survey.specs.Survey.{whole, Step, stepOf}
 use Rattle.survey.specs.inside.Reading.{Nearer}
 use Rattle.survey.specs.declared.Got.{Got}

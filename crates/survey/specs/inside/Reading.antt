@@ -1,7 +1,7 @@
 -- What the program's read promises its loop. Nobody need believe it.
 use Prim.Native.Nat.{ℕ, _+_, _-_, _≤_, _<_}
 use mathlib.Core.Bool.{true}
-use Rattle.bitmap.specs.Pixels.{one}
+use Rattle.chart.specs.Pixels.{one}
 use Rattle.survey.specs.declared.Got.{Got}
 use Rattle.survey.specs.declared.Got.the-variants.{Held, Failed}
 

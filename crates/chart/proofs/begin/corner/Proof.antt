@@ -7,7 +7,7 @@ use mir.Val.{toZ}
 use mir.ValLaws.{toZ-pos}
 use lib.IntN.{pos}
 use borrow.Author.Needs.{needs}
-use Rattle.bitmap.specs.declared.Start.the-variants.{At}
+use Rattle.chart.specs.declared.Start.the-variants.{At}
 use Rattle.chart.proofs.begin.corner.Statement.{statement}
 use Rattle.chart.proofs.begin.corner.Tie as tie
 

@@ -1,6 +1,6 @@
 -- `chart::first_bit` meets its contract. Assumes nothing.
 use borrow.Author.Needs.{needs}
-use Rattle.bitmap.proofs.Digits.{zeros-fit, first-set}
+use Rattle.chart.proofs.Digits.{zeros-fit, first-set}
 use Rattle.chart.proofs.begin.first_bit.Statement.{statement}
 use Rattle.chart.proofs.begin.first_bit.Tie as tie
 

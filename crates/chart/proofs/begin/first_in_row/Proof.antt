@@ -2,9 +2,9 @@
 use Prim.Native.Nat.{_≤_, _-_, _*_}
 use mathlib.Core.Path.{_≡_}
 use borrow.Author.Needs.{needs}
-use Rattle.bitmap.specs.Start.{firstInRow}
-use Rattle.bitmap.proofs.Rows.{row-start-fits, in-row, in-row-fits}
-use Rattle.bitmap.proofs.Starts.{no-byte-yet, place-fits, column-fits, found-in-byte, blank-byte, blank-row}
+use Rattle.chart.specs.Start.{firstInRow}
+use Rattle.chart.proofs.Rows.{row-start-fits, in-row, in-row-fits}
+use Rattle.chart.proofs.begin.Starts.{no-byte-yet, place-fits, column-fits, found-in-byte, blank-byte, blank-row}
 use Rattle.chart.proofs.begin.first_in_row.Statement.{statement}
 use Rattle.chart.proofs.begin.first_in_row.Tie as tie
 

@@ -8,13 +8,13 @@ use native.Mathlib.Omega.{arith}
 use lib.IntN.{pos}
 use borrow.Author.Needs.{needs}
 use borrow.Author.Tests.{lt-ltb, le-ltb}
-use Rattle.refusals.specs.declared.Refusal.the-variants.{BadSize, NoWay}
-use Rattle.bitmap.specs.declared.Chart.{Chart}
-use Rattle.bitmap.specs.declared.Start.{Start}
-use Rattle.bitmap.specs.declared.Start.the-variants.{At, Refused}
-use Rattle.bitmap.specs.Pixels.{Good, badChart}
-use Rattle.bitmap.specs.Start.{columnOf, firstInRow, firstInRows, firstStart}
-use Rattle.bitmap.proofs.Rows.{good}
+use Rattle.point.specs.declared.refusal.Refusal.the-variants.{BadSize, NoWay}
+use Rattle.chart.specs.declared.Chart.{Chart}
+use Rattle.chart.specs.declared.Start.{Start}
+use Rattle.chart.specs.declared.Start.the-variants.{At, Refused}
+use Rattle.chart.specs.Pixels.{Good, badChart}
+use Rattle.chart.specs.Start.{columnOf, firstInRow, firstInRows, firstStart}
+use Rattle.chart.proofs.Rows.{good}
 use Rattle.chart.proofs.begin.first_start.Statement.{statement}
 use Rattle.chart.proofs.begin.first_start.Tie as tie
 

@@ -9,12 +9,12 @@ use native.Mathlib.Omega.{arith}
 use mir.Syntax.{w64}
 use mir.Val.{Fits}
 use borrow.Author.Needs.{needs}
-use Rattle.refusals.specs.declared.Refusal.the-variants.{BadSize}
-use Rattle.bitmap.specs.declared.Chart.{Chart}
-use Rattle.bitmap.specs.declared.Cells.the-variants.{Set, Refused}
-use Rattle.bitmap.specs.Pixels.{Good, badChart}
-use Rattle.bitmap.specs.Area.{rowArea, rowsArea, areaOf}
-use Rattle.bitmap.proofs.Rows.{good, row-le, rows-le}
+use Rattle.point.specs.declared.refusal.Refusal.the-variants.{BadSize}
+use Rattle.chart.specs.declared.Chart.{Chart}
+use Rattle.chart.specs.declared.Cells.the-variants.{Set, Refused}
+use Rattle.chart.specs.Pixels.{Good, badChart}
+use Rattle.chart.specs.Area.{rowArea, rowsArea, areaOf}
+use Rattle.chart.proofs.Rows.{good, row-le, rows-le}
 use Rattle.chart.proofs.counting.area.Statement.{statement}
 use Rattle.chart.proofs.counting.area.Tie as tie
 

@@ -2,8 +2,8 @@
 use Prim.Native.Nat.{_≤_, _-_, _*_}
 use mathlib.Core.Path.{_≡_}
 use borrow.Author.Needs.{needs}
-use Rattle.bitmap.specs.Area.{rowArea}
-use Rattle.bitmap.proofs.Rows.{row-start-fits, in-whole, in-whole-fits, in-rest, in-rest-fits, none-counted, sum-fits, last-sum-fits, counted-more, all-whole, with-the-rest}
+use Rattle.chart.specs.Area.{rowArea}
+use Rattle.chart.proofs.Rows.{row-start-fits, in-whole, in-whole-fits, in-rest, in-rest-fits, none-counted, sum-fits, last-sum-fits, counted-more, all-whole, with-the-rest}
 use Rattle.chart.proofs.counting.row_area.Statement.{statement}
 use Rattle.chart.proofs.counting.row_area.Tie as tie
 

@@ -13,9 +13,9 @@ use Rattle.laws.specs.Joined.{both-true}
 use Rattle.laws.specs.Lists.{over}
 use Rattle.point.specs.Limits.{tooMany, badPoints}
 use Rattle.laws.specs.If.{if_then_else_}
-use Rattle.refusals.specs.declared.Answer.the-variants.{Done, Refused}
-use Rattle.refusals.specs.declared.Refusal.the-variants.{TooMany, BadPoint, TooFew, BadSettings, NoRoom}
-use Rattle.outline.proofs.Room.{not-bad}
+use Rattle.point.specs.declared.refusal.Answer.the-variants.{Done, Refused}
+use Rattle.point.specs.declared.refusal.Refusal.the-variants.{TooMany, BadPoint, TooFew, BadSettings, NoRoom}
+use Rattle.point.proofs.Room.{not-bad}
 use Rattle.corners.specs.declared.Pair.{Pair}
 use Rattle.corners.specs.Corners.{cornersOf}
 use Rattle.corners.specs.Calls.{fair, findCornersOf}

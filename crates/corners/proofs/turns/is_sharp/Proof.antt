@@ -8,7 +8,7 @@ use borrow.Author.Needs.{needs}
 use Rattle.point.specs.Limits.{badPoints}
 use Rattle.point.specs.declared.PointI32.{PointI32}
 use Rattle.point.proofs.Claims.{coordinates-fit}
-use Rattle.outline.specs.Points.{pointAt}
+use Rattle.point.specs.Points.{pointAt}
 use Rattle.util.specs.Near.{Near}
 use Rattle.corners.specs.declared.Pair.{Pair}
 use Rattle.corners.specs.Corners.{vector, before, behind, into, outOf, sharp}

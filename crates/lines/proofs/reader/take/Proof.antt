@@ -7,7 +7,7 @@ use native.Mathlib.Omega.{arith}
 use lib.ListN.{length, take}
 use borrow.Author.Needs.{needs}
 use borrow.Author.Tests.{lt-ltb, le-ltb}
-use Rattle.line_words.specs.Split.{firstFrom}
+use Rattle.words.specs.Line.{firstFrom}
 use Rattle.lines.specs.Reader.{Outcome, inside, newline, lineEnds, inputEnds, refill, took, taken}
 use Rattle.lines.specs.declared.reader.Reader.{Reader}
 use Rattle.lines.specs.declared.reader.Taken.{Taken}

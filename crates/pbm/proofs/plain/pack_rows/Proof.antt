@@ -14,8 +14,8 @@ use lib.ListN.{length, getD, drop, set, length-set}
 use borrow.Author.Needs.{needs}
 use borrow.Author.Tests.{lt-ltb, le-ltb}
 use Rattle.laws.specs.Lists.{over, over-nil}
-use Rattle.bitmap.specs.Pixels.{rowBytes, side}
-use Rattle.bitmap.specs.declared.Chart.{Chart}
+use Rattle.chart.specs.Pixels.{rowBytes, side}
+use Rattle.chart.specs.declared.Chart.{Chart}
 use Rattle.pbm.specs.Bytes.{packed, byteAt, listed, chartBytes}
 use Rattle.pbm.specs.Raster.{Digits, digitsIn}
 use Rattle.pbm.specs.inside.Places.{behindDigits, bitsOf, whole}

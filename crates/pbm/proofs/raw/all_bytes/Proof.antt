@@ -1,6 +1,6 @@
 -- `pbm::raw::all_bytes` meets its contract. Assumes nothing.
 use borrow.Author.Needs.{needs}
-use Rattle.bitmap.proofs.Sizes.{bytes-of-rows}
+use Rattle.chart.proofs.Sizes.{bytes-of-rows}
 use Rattle.pbm.proofs.Copied.{all-fit}
 use Rattle.pbm.proofs.raw.all_bytes.Statement.{statement}
 use Rattle.pbm.proofs.raw.all_bytes.Tie as tie

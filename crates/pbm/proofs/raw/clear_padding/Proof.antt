@@ -12,8 +12,8 @@ use mir.Val.{Fits}
 use lib.ListN.{length, take, drop, getD, set, length-set}
 use lib.Seq.{paste, paste-zero, take-all}
 use borrow.Author.Needs.{needs}
-use Rattle.bitmap.specs.Pixels.{side, rowBytes, cell}
-use Rattle.bitmap.specs.declared.Chart.{Chart}
+use Rattle.chart.specs.Pixels.{side, rowBytes, cell}
+use Rattle.chart.specs.declared.Chart.{Chart}
 use Rattle.pbm.specs.Bytes.{chartBytes}
 use Rattle.pbm.proofs.Bytes.{length-chartBytes}
 use Rattle.pbm.proofs.Copied.{wide-within}

@@ -7,8 +7,8 @@ use native.Mathlib.Omega.{arith}
 use lib.ListN.{length, take, drop, getD, List·getD-append}
 use lib.Seq.{paste, take-at, drop-paste, drop-at, getD-take, length-take-le}
 use borrow.Author.Needs.{needs}
-use Rattle.bitmap.specs.Pixels.{rowBytes, cell}
-use Rattle.bitmap.specs.declared.Chart.{Chart}
+use Rattle.chart.specs.Pixels.{rowBytes, cell}
+use Rattle.chart.specs.declared.Chart.{Chart}
 use Rattle.texts.specs.Put.{put, Outcome}
 use Rattle.texts.proofs.Pieces.{put-fits}
 use Rattle.pbm.specs.Bytes.{chartBytes}

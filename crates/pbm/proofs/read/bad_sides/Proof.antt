@@ -3,7 +3,7 @@ use Prim.Native.Nat.{ℕ}
 use mathlib.Core.Bool.{Bool, true, false, not, _&&_, _||_}
 use mathlib.Core.Path.{_≡_, refl}
 use borrow.Author.Needs.{needs}
-use Rattle.bitmap.specs.Pixels.{side}
+use Rattle.chart.specs.Pixels.{side}
 use Rattle.pbm.proofs.read.bad_sides.Statement.{statement}
 use Rattle.pbm.proofs.read.bad_sides.Tie as tie
 

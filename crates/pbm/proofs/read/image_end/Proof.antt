@@ -6,8 +6,8 @@ use mathlib.Core.Path.{_≡_, ap}
 use native.Mathlib.Omega.{arith}
 use lib.ListN.{length, drop, length-drop}
 use borrow.Author.Needs.{needs}
-use Rattle.bitmap.specs.Pixels.{rowBytes}
-use Rattle.bitmap.specs.declared.Chart.{Chart}
+use Rattle.chart.specs.Pixels.{rowBytes}
+use Rattle.chart.specs.declared.Chart.{Chart}
 use Rattle.pbm.specs.Raster.{digitsIn}
 use Rattle.pbm.specs.inside.Places.{placeOf, behindDigits, behindImage, imageOf}
 use Rattle.pbm.specs.declared.header.Place.{Place}

@@ -8,8 +8,8 @@ use lib.ListN.{length, getD, take, drop, length-drop}
 use lib.Seq.{take-all}
 use borrow.Author.Needs.{needs}
 use Rattle.laws.specs.Lists.{over}
-use Rattle.bitmap.specs.Pixels.{rowBytes, cell}
-use Rattle.bitmap.specs.declared.Chart.{Chart}
+use Rattle.chart.specs.Pixels.{rowBytes, cell}
+use Rattle.chart.specs.declared.Chart.{Chart}
 use Rattle.pbm.specs.Bytes.{chartBytes}
 use Rattle.pbm.specs.Raster.{digitsIn}
 use Rattle.pbm.specs.inside.Places.{imageOf, hasImage, setOf, bitsOf, whole}

@@ -8,8 +8,8 @@ use native.Mathlib.Omega.{arith}
 use lib.ListN.{length, drop}
 use borrow.Author.Needs.{needs}
 use Rattle.laws.specs.Lists.{over}
-use Rattle.refusals.specs.declared.Refusal.the-variants.{BadSize, NoRoom, BadPicture}
-use Rattle.bitmap.specs.Pixels.{rowBytes, side}
+use Rattle.point.specs.declared.refusal.Refusal.the-variants.{BadSize, NoRoom, BadPicture}
+use Rattle.chart.specs.Pixels.{rowBytes, side}
 use Rattle.pbm.specs.Header.{rasterIn}
 use Rattle.pbm.specs.Raster.{Image, imageIn}
 use Rattle.pbm.specs.Bytes.{chartBytes}

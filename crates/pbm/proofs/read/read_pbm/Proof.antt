@@ -6,7 +6,7 @@ use mathlib.Core.Path.{_≡_, refl, sym, ap, _∙_}
 use native.Mathlib.Omega.{arith}
 use lib.ListN.{length, drop}
 use borrow.Author.Needs.{needs}
-use Rattle.refusals.specs.declared.Refusal.the-variants.{BadPicture}
+use Rattle.point.specs.declared.refusal.Refusal.the-variants.{BadPicture}
 use Rattle.pbm.specs.Header.{Header, headerIn}
 use Rattle.pbm.specs.Calls.{Outcome, refused, readBehind, readOf}
 use Rattle.pbm.specs.inside.Places.{cut, headOf, headerAt}

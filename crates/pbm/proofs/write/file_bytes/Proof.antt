@@ -8,8 +8,8 @@ use mir.Syntax.{w64}
 use mir.Val.{Fits}
 use lib.ListN.{length}
 use borrow.Author.Needs.{needs}
-use Rattle.bitmap.specs.Pixels.{side, rowBytes}
-use Rattle.bitmap.specs.declared.Chart.{Chart}
+use Rattle.chart.specs.Pixels.{side, rowBytes}
+use Rattle.chart.specs.declared.Chart.{Chart}
 use Rattle.pbm.specs.Calls.{headText}
 use Rattle.pbm.proofs.Copied.{wide-within}
 use Rattle.pbm.proofs.HeadText.{head-short}

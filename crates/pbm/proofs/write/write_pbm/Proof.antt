@@ -11,11 +11,11 @@ use borrow.Author.Needs.{needs}
 use borrow.Author.Tests.{lt-ltb, le-ltb, ltb-false, not-false}
 use Rattle.laws.specs.Joined.{both-false}
 use Rattle.laws.specs.Lists.{over, take-over-all, drop-over, length-over}
-use Rattle.refusals.specs.Refusals.{refuse_when_or_}
-use Rattle.refusals.specs.declared.Answer.the-variants.{Done, Refused}
-use Rattle.refusals.specs.declared.Refusal.the-variants.{BadSize, NoRoom}
-use Rattle.bitmap.specs.Pixels.{side, rowBytes, cell, badChart}
-use Rattle.bitmap.specs.declared.Chart.{Chart}
+use Rattle.point.specs.Refusals.{refuse_when_or_}
+use Rattle.point.specs.declared.refusal.Answer.the-variants.{Done, Refused}
+use Rattle.point.specs.declared.refusal.Refusal.the-variants.{BadSize, NoRoom}
+use Rattle.chart.specs.Pixels.{side, rowBytes, cell, badChart}
+use Rattle.chart.specs.declared.Chart.{Chart}
 use Rattle.pbm.specs.Bytes.{chartBytes}
 use Rattle.pbm.specs.Calls.{headText, pictureText, written, writtenOf}
 use Rattle.pbm.proofs.Bytes.{length-chartBytes}

@@ -13,23 +13,22 @@ use lib.ListN.{length, take}
 use borrow.Author.Needs.{needs}
 use Rattle.laws.specs.If.{if_then_else_}
 use Rattle.laws.specs.Lists.{over, length-over, take-over-all}
-use Rattle.point.specs.Points.{flat, points}
-use Rattle.refusals.specs.declared.Answer.{Answer}
-use Rattle.refusals.specs.declared.Answer.the-variants.{Done}
+use Rattle.point.specs.Points.{flat, points, count}
+use Rattle.point.specs.declared.refusal.Answer.{Answer}
+use Rattle.point.specs.declared.refusal.Answer.the-variants.{Done}
 use Rattle.point.specs.declared.PointI32.{PointI32}
-use Rattle.outline.specs.Points.{count}
-use Rattle.outline.specs.Written.{Handed}
-use Rattle.outline.proofs.Flat.{length-flat, length-points, count-flat}
-use Rattle.outline.proofs.Room.{places-shorter}
+use Rattle.point.specs.inside.Written.{Handed}
+use Rattle.point.proofs.Flat.{length-flat, length-points, count-flat}
+use Rattle.point.proofs.Room.{places-shorter}
 use Rattle.split.specs.Tree.{marksOf}
 use Rattle.split.specs.Marks.{markedOf}
 use Rattle.split.proofs.Claims.{a-mark-for-each-point, marked-over}
-use Rattle.keeping.specs.Calls.{Points, handed, keptAllOf, keptMarkedOf}
-use Rattle.keeping.specs.Kept.{kept}
-use Rattle.keeping.proofs.Claims.{all-handed, marked-handed}
-use Rattle.keeping.proofs.Marks.{kept-over}
+use Rattle.reduce.specs.Keep.{Points, handed, keptAllOf, keptMarkedOf}
+use Rattle.reduce.specs.Kept.{kept}
+use Rattle.reduce.proofs.keep.Handed.{all-handed, marked-handed}
+use Rattle.reduce.proofs.Marks.{kept-over}
 use Rattle.reduce.specs.Radial.{radial}
-use Rattle.reduce.specs.Calls.{reduceRefusal, reduceOutcome}
+use Rattle.reduce.specs.Reduce.{reduceRefusal, reduceOutcome}
 use Rattle.reduce.proofs.radial.Far.{radial-shorter, radial-some}
 use Rattle.reduce.proofs.Lines.{test-is, many-points, answers-whole, answers-narrowed, good-points, out-room, scratch-room, marks-room, scratch-fits, out-fits}
 use Rattle.reduce.proofs.both_passes.narrow.Statement.{statement}

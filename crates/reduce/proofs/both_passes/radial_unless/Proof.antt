@@ -9,7 +9,7 @@ use Rattle.laws.specs.Lists.{over}
 use Rattle.point.specs.Points.{flat}
 use Rattle.laws.specs.If.{if_then_else_}
 use Rattle.point.specs.declared.PointI32.{PointI32}
-use Rattle.outline.specs.Written.{Handed}
+use Rattle.point.specs.inside.Written.{Handed}
 use Rattle.reduce.proofs.both_passes.radial_unless.Statement.{statement}
 use Rattle.reduce.proofs.both_passes.radial_unless.Tie as tie
 

@@ -10,11 +10,11 @@ use lib.IntN.{ℤ}
 use lib.ListN.{length}
 use borrow.Author.Needs.{needs}
 use Rattle.point.specs.Limits.{tooMany, badPoints, badTolerance, placesFor}
-use Rattle.refusals.specs.declared.Answer.{Answer}
-use Rattle.refusals.specs.declared.Answer.the-variants.{Refused}
-use Rattle.refusals.specs.declared.Refusal.the-variants.{TooMany, BadPoint, BadTolerance, NoRoom}
-use Rattle.outline.specs.Points.{count}
-use Rattle.reduce.specs.Calls.{reduceRefusal, reduceOutcome, reduceOf}
+use Rattle.point.specs.declared.refusal.Answer.{Answer}
+use Rattle.point.specs.declared.refusal.Answer.the-variants.{Refused}
+use Rattle.point.specs.declared.refusal.Refusal.the-variants.{TooMany, BadPoint, BadTolerance, NoRoom}
+use Rattle.point.specs.Points.{count}
+use Rattle.reduce.specs.Reduce.{reduceRefusal, reduceOutcome, reduceOf}
 use Rattle.reduce.proofs.both_passes.reduce.Statement.{statement}
 use Rattle.reduce.proofs.both_passes.reduce.Tie as tie
 

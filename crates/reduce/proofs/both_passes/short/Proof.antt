@@ -5,7 +5,7 @@ use mathlib.Core.Path.{_≡_}
 use lib.Dec.{ltb}
 use borrow.Author.Needs.{needs}
 use Rattle.point.specs.Limits.{placesFor}
-use Rattle.outline.proofs.Room.{too-short, long-enough}
+use Rattle.point.proofs.Room.{too-short, long-enough}
 use Rattle.reduce.proofs.both_passes.short.Statement.{statement}
 use Rattle.reduce.proofs.both_passes.short.Tie as tie
 

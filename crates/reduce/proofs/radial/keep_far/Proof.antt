@@ -11,16 +11,15 @@ use lib.ListN.{length, drop, set, getD}
 use borrow.Author.Needs.{needs}
 use Rattle.laws.specs.Lists.{over}
 use Rattle.point.specs.Limits.{badPoints, inRange}
-use Rattle.point.specs.Points.{flat, points}
-use Rattle.refusals.specs.declared.Answer.{Answer}
+use Rattle.point.specs.Points.{flat, points, count, pointAt}
+use Rattle.point.specs.declared.refusal.Answer.{Answer}
 use Rattle.point.specs.declared.PointI32.{PointI32}
 use Rattle.point.proofs.Claims.{whole-points, coordinates-fit}
-use Rattle.outline.specs.Points.{count, pointAt}
-use Rattle.outline.specs.Written.{onto, Handed, Left}
-use Rattle.outline.proofs.Flat.{length-points, flat-points, points-at}
-use Rattle.outline.proofs.Written.{begun-with, from-before, passed, taken, rest-fits, completed}
-use Rattle.keeping.specs.Calls.{Points, keptAllOf}
-use Rattle.keeping.proofs.Claims.{all-handed}
+use Rattle.point.specs.inside.Written.{onto, Handed, Left}
+use Rattle.point.proofs.Flat.{length-points, flat-points, points-at}
+use Rattle.point.proofs.Written.{begun-with, from-before, passed, taken, rest-fits, completed}
+use Rattle.reduce.specs.Keep.{Points, keptAllOf}
+use Rattle.reduce.proofs.keep.Handed.{all-handed}
 use Rattle.reduce.specs.Distance.{sqDist}
 use Rattle.reduce.specs.Radial.{radial, radialFrom, radialEnd}
 use Rattle.reduce.proofs.radial.Far.{radial-shorter, radial-whole, radial-first, far, near, none-left}

@@ -8,14 +8,13 @@ use lib.IntN.{ℤ}
 use lib.ListN.{length}
 use borrow.Author.Needs.{needs}
 use Rattle.point.specs.Limits.{tooMany, badPoints, badSqTolerance, placesFor}
-use Rattle.point.specs.Points.{points}
-use Rattle.refusals.specs.declared.Answer.the-variants.{Done, Refused}
-use Rattle.refusals.specs.declared.Refusal.the-variants.{TooMany, BadPoint, BadTolerance, NoRoom}
-use Rattle.outline.specs.Points.{count}
-use Rattle.outline.specs.Written.{Handed}
-use Rattle.outline.proofs.Room.{too-short, long-enough, not-bad, list-fits}
+use Rattle.point.specs.Points.{points, count}
+use Rattle.point.specs.declared.refusal.Answer.the-variants.{Done, Refused}
+use Rattle.point.specs.declared.refusal.Refusal.the-variants.{TooMany, BadPoint, BadTolerance, NoRoom}
+use Rattle.point.specs.inside.Written.{Handed}
+use Rattle.point.proofs.Room.{too-short, long-enough, not-bad, list-fits}
 use Rattle.reduce.specs.Radial.{radial}
-use Rattle.reduce.specs.Calls.{radialOf}
+use Rattle.reduce.specs.Reduce.{radialOf}
 use Rattle.reduce.proofs.radial.simplify_radial_dist.Statement.{statement}
 use Rattle.reduce.proofs.radial.simplify_radial_dist.Tie as tie
 

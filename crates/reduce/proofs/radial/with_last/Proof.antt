@@ -9,8 +9,8 @@ use lib.ListN.{length, set}
 use borrow.Author.Needs.{needs}
 use Rattle.point.specs.Points.{flat}
 use Rattle.point.specs.declared.PointI32.{PointI32}
-use Rattle.outline.specs.Written.{onto}
-use Rattle.outline.proofs.Written.{onto-nil, onto-two}
+use Rattle.point.specs.inside.Written.{onto}
+use Rattle.point.proofs.Written.{onto-nil, onto-two}
 use Rattle.reduce.specs.Radial.{samePoint, radialEnd}
 use Rattle.reduce.proofs.radial.with_last.Statement.{statement}
 use Rattle.reduce.proofs.radial.with_last.Tie as tie

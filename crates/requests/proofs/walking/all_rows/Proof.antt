@@ -6,7 +6,7 @@ use native.Mathlib.Omega.{arith}
 use mir.Syntax.{w64}
 use mir.Val.{Fits}
 use borrow.Author.Needs.{needs}
-use Rattle.bitmap.specs.Pixels.{rowBytes}
+use Rattle.chart.specs.Pixels.{rowBytes}
 use Rattle.requests.proofs.walking.all_rows.Statement.{statement}
 use Rattle.requests.proofs.walking.all_rows.Tie as tie
 

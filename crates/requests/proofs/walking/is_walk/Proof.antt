@@ -8,7 +8,7 @@ use lib.Dec.{eqb}
 use lib.ListN.{length, getD}
 use borrow.Author.Needs.{needs}
 use borrow.Author.Tests.{eqb-true, eqb-false, eq-eqb, ne-eqb, le-leb, lt-leb}
-use Rattle.bitmap.specs.Pixels.{rowBytes}
+use Rattle.chart.specs.Pixels.{rowBytes}
 use Rattle.requests.specs.Frame.{wordAt, directed}
 use Rattle.requests.proofs.walking.is_walk.Statement.{statement}
 use Rattle.requests.proofs.walking.is_walk.Tie as tie

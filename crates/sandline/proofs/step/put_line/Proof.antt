@@ -8,7 +8,7 @@ use borrow.Author.Needs.{needs}
 use Rattle.texts.specs.Put.{put}
 use Rattle.lines.specs.Turns.{line}
 use Rattle.texts.proofs.Pieces.{put-then}
-use Rattle.frames.specs.Reply.{answerTo}
+use Rattle.frames.specs.Answer.{answerTo}
 use Rattle.frames.proofs.Claims.{answer-short}
 use Rattle.sandline.proofs.step.put_line.Statement.{statement}
 use Rattle.sandline.proofs.step.put_line.Tie as tie

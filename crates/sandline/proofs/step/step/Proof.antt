@@ -15,7 +15,7 @@ use Rattle.lines.specs.declared.turns.Turn.{Turn}
 use Rattle.lines.specs.declared.turns.Turn.the-variants.{Line, Write, Read, End}
 use Rattle.lines.proofs.turns.Turn as Turn
 use Rattle.lines.proofs.Claims.{line-starts, line-ends, line-has-room}
-use Rattle.frames.specs.Reply.{answerTo}
+use Rattle.frames.specs.Answer.{answerTo}
 use Rattle.sandline.proofs.step.step.Statement.{statement}
 use Rattle.sandline.proofs.step.step.Tie as tie
 

@@ -41,10 +41,10 @@ use denote.Triple.Call.{calls-at}
 use denote.Triple.Clauses.{ensured, lasts}
 use denote.Triple.Table.{entered, cited}
 use denote.Triple.Walked.{says, Stays, stay-none, stay-ref, walkOf, AllGo, goes-none, goes-ref, Walks, ends-at, walked, walk-meets}
-use Rattle.spirals.specs.Spiral.{freshSpiral}
-use Rattle.spirals.specs.declared.SpiralWalker.{SpiralWalker}
-use Rattle.spirals.proofs.SpiralWalker as S
-use Rattle.spirals.proofs.SpiralWalker.Laws as S′
+use Rattle.spiral.specs.Spiral.{freshSpiral}
+use Rattle.spiral.specs.declared.SpiralWalker.{SpiralWalker}
+use Rattle.spiral.proofs.SpiralWalker as S
+use Rattle.spiral.proofs.SpiralWalker.Laws as S′
 use Rattle.sandline_c.specs.Handed.{begun}
 use Rattle.sandline_c.specs.declared.spiralling.Begun.{Begun}
 use Rattle.sandline_c.proofs.spiralling.Begun as O

@@ -35,13 +35,13 @@ use denote.Triple.Call.{calls-at}
 use denote.Triple.Clauses.{ensured, lasts}
 use denote.Triple.Table.{entered, cited}
 use denote.Triple.Walked.{says, Stays, gave-ref, walkOf, AllGo, goes-gave-ref, Walks, ends-at, walked, walk-meets}
-use Rattle.spirals.specs.Spiral.{advanced}
-use Rattle.spirals.specs.declared.Advanced.{Advanced}
-use Rattle.spirals.specs.declared.AdvancedOutcome.{AdvancedOutcome}
-use Rattle.spirals.specs.declared.SpiralWalker.{SpiralWalker}
-use Rattle.spirals.proofs.Advanced as N
-use Rattle.spirals.proofs.Advanced.Laws as N′
-use Rattle.spirals.proofs.SpiralWalker as S
+use Rattle.spiral.specs.Spiral.{advanced}
+use Rattle.spiral.specs.declared.Advanced.{Advanced}
+use Rattle.spiral.specs.declared.AdvancedOutcome.{AdvancedOutcome}
+use Rattle.spiral.specs.declared.SpiralWalker.{SpiralWalker}
+use Rattle.spiral.proofs.Advanced as N
+use Rattle.spiral.proofs.Advanced.Laws as N′
+use Rattle.spiral.proofs.SpiralWalker as S
 use Rattle.spiral.proofs.spiral_advance as advance
 use Rattle.spiral.proofs.spiral_advance.Symbol as advance-def
 use Rattle.spiral.proofs.spiral_advance.Symbol.{name as #advance}

@@ -8,9 +8,9 @@ use lib.IntN.{ℤ, pos, natAbs, _+ℤ_}
 use lib.Signed.{mag}
 use borrow.Author.Needs.{needs}
 use Rattle.laws.specs.Integers.{abs-add-le}
-use Rattle.spirals.specs.Spiral.{between, goingX, goingY, longer, corner}
-use Rattle.spirals.specs.declared.SpiralWalker.{SpiralWalker}
-use Rattle.spirals.proofs.Laws.{by-bits, same, told, from-one, four}
+use Rattle.spiral.specs.Spiral.{between, goingX, goingY, longer, corner}
+use Rattle.spiral.specs.declared.SpiralWalker.{SpiralWalker}
+use Rattle.spiral.proofs.Laws.{by-bits, same, told, from-one, four}
 use Rattle.spiral.proofs.places.corner.Statement.{statement}
 use Rattle.spiral.proofs.places.corner.Tie as tie
 

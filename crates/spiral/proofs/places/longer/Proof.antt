@@ -11,8 +11,8 @@ use lib.IntN.{ℤ, pos, _+ℤ_}
 use lib.Signed.{quotZ, remZ}
 use borrow.Author.Needs.{needs}
 use Rattle.laws.specs.Integers.{add-sfits}
-use Rattle.spirals.specs.Spiral.{between, longer}
-use Rattle.spirals.proofs.Laws.{by-bits, four, from-one}
+use Rattle.spiral.specs.Spiral.{between, longer}
+use Rattle.spiral.proofs.Laws.{by-bits, four, from-one}
 use Rattle.spiral.proofs.places.longer.Statement.{statement}
 use Rattle.spiral.proofs.places.longer.Tie as tie
 

@@ -4,9 +4,9 @@ use mathlib.Core.Path.{_≡_, ap, _∙_}
 use lib.IntN.{ℤ, pos, _+ℤ_}
 use lib.Signed.{ltZ}
 use borrow.Author.Needs.{needs}
-use Rattle.spirals.specs.Spiral.{between, sound, turned, ahead, corner, onward}
-use Rattle.spirals.specs.declared.SpiralWalker.{SpiralWalker}
-use Rattle.spirals.proofs.Laws.{by-bits, turned-fine, turned-same, dir-fine, dir-same, sq-fine, sq-same, cc-next-same}
+use Rattle.spiral.specs.Spiral.{between, sound, turned, ahead, corner, onward}
+use Rattle.spiral.specs.declared.SpiralWalker.{SpiralWalker}
+use Rattle.spiral.proofs.Laws.{by-bits, turned-fine, turned-same, dir-fine, dir-same, sq-fine, sq-same, cc-next-same}
 use Rattle.spiral.proofs.places.onward.Statement.{statement}
 use Rattle.spiral.proofs.places.onward.Tie as tie
 

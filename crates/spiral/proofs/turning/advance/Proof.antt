@@ -2,12 +2,12 @@
 use mathlib.Core.Path.{_≡_}
 use borrow.Author.Needs.{needs}
 use Rattle.point.specs.declared.PointI32.{PointI32}
-use Rattle.refusals.specs.declared.Refusal.{Refusal}
-use Rattle.spirals.specs.Spiral.{spiralTurn, advanced}
-use Rattle.spirals.specs.declared.Advanced.the-variants as Advanced
-use Rattle.spirals.specs.declared.SpiralWalker.{SpiralWalker}
-use Rattle.spirals.specs.declared.Turn.{Turn}
-use Rattle.spirals.specs.declared.Turn.the-variants.{At, End, Refused}
+use Rattle.point.specs.declared.refusal.Refusal.{Refusal}
+use Rattle.spiral.specs.Spiral.{spiralTurn, advanced}
+use Rattle.spiral.specs.declared.Advanced.the-variants as Advanced
+use Rattle.spiral.specs.declared.SpiralWalker.{SpiralWalker}
+use Rattle.spiral.specs.declared.Turn.{Turn}
+use Rattle.spiral.specs.declared.Turn.the-variants.{At, End, Refused}
 use Rattle.spiral.proofs.turning.advance.Statement.{statement}
 use Rattle.spiral.proofs.turning.advance.Tie as tie
 

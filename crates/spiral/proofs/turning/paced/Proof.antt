@@ -9,8 +9,8 @@ use lib.Dec.{leb}
 use lib.IntN.{ℤ, pos}
 use lib.Signed.{leZ, ltZ}
 use borrow.Author.Needs.{needs}
-use Rattle.spirals.specs.Spiral.{between, paced}
-use Rattle.spirals.proofs.Laws.{by-bits}
+use Rattle.spiral.specs.Spiral.{between, paced}
+use Rattle.spiral.proofs.Laws.{by-bits}
 use Rattle.spiral.proofs.turning.paced.Statement.{statement}
 use Rattle.spiral.proofs.turning.paced.Tie as tie
 

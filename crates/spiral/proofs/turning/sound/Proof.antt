@@ -4,9 +4,9 @@ use mathlib.Core.Bool.{Bool, _&&_}
 use mathlib.Core.Path.{_≡_}
 use lib.Signed.{mag}
 use borrow.Author.Needs.{needs}
-use Rattle.spirals.specs.Spiral.{placed, paced, sound}
-use Rattle.spirals.specs.declared.SpiralWalker.{SpiralWalker}
-use Rattle.spirals.proofs.Laws.{by-bits, told}
+use Rattle.spiral.specs.Spiral.{placed, paced, sound}
+use Rattle.spiral.specs.declared.SpiralWalker.{SpiralWalker}
+use Rattle.spiral.proofs.Laws.{by-bits, told}
 use Rattle.spiral.proofs.turning.sound.Statement.{statement}
 use Rattle.spiral.proofs.turning.sound.Tie as tie
 

@@ -11,10 +11,10 @@ use lib.IntN.{pos, _-ℤ_}
 use borrow.Author.Needs.{needs}
 use borrow.Author.Tests.{lt-ltb, le-ltb}
 use Rattle.laws.specs.Integers.{sub-sfits}
-use Rattle.refusals.specs.declared.Refusal.the-variants.{BadSize}
-use Rattle.spirals.specs.Spiral.{freshSpiral}
-use Rattle.spirals.specs.declared.Fresh.the-variants.{Refused, Ready}
-use Rattle.spirals.proofs.Laws.{by-bits}
+use Rattle.point.specs.declared.refusal.Refusal.the-variants.{BadSize}
+use Rattle.spiral.specs.Spiral.{freshSpiral}
+use Rattle.spiral.specs.declared.Fresh.the-variants.{Refused, Ready}
+use Rattle.spiral.proofs.Laws.{by-bits}
 use Rattle.spiral.proofs.turning.spiral.Statement.{statement}
 use Rattle.spiral.proofs.turning.spiral.Tie as tie
 

@@ -39,16 +39,16 @@ use denote.Triple.Call.{calls-at}
 use denote.Triple.Clauses.{ensured, lasts}
 use denote.Triple.Table.{entered, cited}
 use denote.Triple.Walked.{says, Stays, stay-ref, walkOf, AllGo, goes-ref, Walks, ends-at, walked, walk-meets}
-use Rattle.spirals.specs.Spiral.{advanced}
-use Rattle.spirals.specs.declared.Advanced.{Advanced}
-use Rattle.spirals.specs.declared.AdvancedOutcome.{AdvancedOutcome}
-use Rattle.spirals.specs.declared.SpiralWalker.{SpiralWalker}
-use Rattle.spirals.proofs.Advanced as N
-use Rattle.spirals.proofs.Advanced.Laws as N′
-use Rattle.spirals.proofs.AdvancedOutcome as O
-use Rattle.spirals.proofs.AdvancedOutcome.Laws as O′
-use Rattle.spirals.proofs.SpiralWalker as S
-use Rattle.spirals.proofs.SpiralWalker.Laws as S′
+use Rattle.spiral.specs.Spiral.{advanced}
+use Rattle.spiral.specs.declared.Advanced.{Advanced}
+use Rattle.spiral.specs.declared.AdvancedOutcome.{AdvancedOutcome}
+use Rattle.spiral.specs.declared.SpiralWalker.{SpiralWalker}
+use Rattle.spiral.proofs.Advanced as N
+use Rattle.spiral.proofs.Advanced.Laws as N′
+use Rattle.spiral.proofs.AdvancedOutcome as O
+use Rattle.spiral.proofs.AdvancedOutcome.Laws as O′
+use Rattle.spiral.proofs.SpiralWalker as S
+use Rattle.spiral.proofs.SpiralWalker.Laws as S′
 use Rattle.spiral.proofs.turning.advance as advance
 use Rattle.spiral.proofs.turning.advance.Symbol as advance-def
 use Rattle.spiral.proofs.turning.advance.Symbol.{name as #advance}

@@ -8,11 +8,11 @@ use mir.Val.{Fits}
 use lib.IntN.{pos}
 use borrow.Author.Needs.{needs}
 use borrow.Author.Tests.{le-leb, lt-leb, eq-eqb, ne-eqb, not-true, not-false}
-use Rattle.refusals.specs.declared.Refusal.the-variants.{BadSize}
-use Rattle.spirals.specs.Spiral.{sound, alone, onward, spiralTurn}
-use Rattle.spirals.specs.declared.SpiralWalker.{SpiralWalker}
-use Rattle.spirals.specs.declared.Turn.the-variants.{At, End, Refused}
-use Rattle.spirals.proofs.Laws.{by-bits, x-same, y-same, step-le}
+use Rattle.point.specs.declared.refusal.Refusal.the-variants.{BadSize}
+use Rattle.spiral.specs.Spiral.{sound, alone, onward, spiralTurn}
+use Rattle.spiral.specs.declared.SpiralWalker.{SpiralWalker}
+use Rattle.spiral.specs.declared.Turn.the-variants.{At, End, Refused}
+use Rattle.spiral.proofs.Laws.{by-bits, x-same, y-same, step-le}
 use Rattle.spiral.proofs.turning.spiral_step.Statement.{statement}
 use Rattle.spiral.proofs.turning.spiral_step.Tie as tie
 

@@ -5,9 +5,9 @@ use mathlib.Core.Path.{_≡_, _∙_}
 use native.Mathlib.Omega.{arith}
 use lib.IntN.{ℤ}
 use lib.ListN.{length}
-use Rattle.spans.specs.declared.span.Far.{Far}
-use Rattle.spans.specs.Farthest.{farthest, farthestIn}
-use Rattle.spans.proofs.Folds.{found-in}
+use Rattle.split.specs.declared.farthest.Far.{Far}
+use Rattle.split.specs.Farthest.{farthest, farthestIn}
+use Rattle.split.proofs.Folds.{found-in}
 use Rattle.split.specs.Spans.{Split}
 use Rattle.split.proofs.Trees.{split-inside}
 use Rattle.split.proofs.span.split_point.Statement.{statement}

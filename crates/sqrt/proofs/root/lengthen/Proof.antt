@@ -5,7 +5,7 @@ use native.Mathlib.Omega.{arith}
 use mir.Syntax.{w64}
 use mir.Val.{Fits}
 use borrow.Author.Needs.{needs}
-use Rattle.roots.specs.ByHalves.{rest-small, digit-le, left-small, square-small, longer}
+use Rattle.sqrt.proofs.whole.ByHalves.{rest-small, digit-le, left-small, square-small, longer}
 use Rattle.sqrt.proofs.root.lengthen.Statement.{statement}
 use Rattle.sqrt.proofs.root.lengthen.Tie as tie
 

@@ -1,6 +1,6 @@
 -- `sqrt::root::lowered` meets its contract. Assumes nothing.
 use borrow.Author.Needs.{needs}
-use Rattle.roots.specs.ByHalves.{from-left, from-root}
+use Rattle.sqrt.proofs.whole.ByHalves.{from-left, from-root}
 use Rattle.sqrt.proofs.root.lowered.Statement.{statement}
 use Rattle.sqrt.proofs.root.lowered.Tie as tie
 

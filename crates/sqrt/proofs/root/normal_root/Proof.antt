@@ -9,7 +9,7 @@ use lib.Pow.{pow-add, pow-mono, pow-pos, shl-lt}
 use borrow.Author.Needs.{needs}
 use Rattle.sqrt.specs.Nearest.{NearestWhole}
 use Rattle.sqrt.specs.Root.{nearestRoot}
-use Rattle.roots.specs.Patterns.{bits-of-root}
+use Rattle.sqrt.proofs.nearest.Patterns.{bits-of-root}
 use Rattle.sqrt.proofs.root.normal_root.Statement.{statement}
 use Rattle.sqrt.proofs.root.normal_root.Tie as tie
 

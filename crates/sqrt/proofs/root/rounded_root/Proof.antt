@@ -6,7 +6,7 @@ use mir.Syntax.{w64}
 use mir.Val.{Fits}
 use borrow.Author.Needs.{needs}
 use Rattle.sqrt.specs.Nearest.{NearestWhole, Found}
-use Rattle.roots.specs.ByHalves.{found-below, found-from, rounds-up, rounds-down}
+use Rattle.sqrt.proofs.whole.ByHalves.{found-below, found-from, rounds-up, rounds-down}
 use Rattle.sqrt.proofs.root.rounded_root.Statement.{statement}
 use Rattle.sqrt.proofs.root.rounded_root.Tie as tie
 

@@ -6,7 +6,7 @@ use lib.Ieee.{Float, binary64, fits, toBits, ofBits}
 use lib.Ieee.Bits.{ofBits-toBits}
 use borrow.Author.Needs.{needs}
 use Rattle.sqrt.specs.Root.{rootOf}
-use Rattle.roots.specs.RootFits.{root-fits}
+use Rattle.sqrt.proofs.nearest.RootFits.{root-fits}
 use Rattle.sqrt.proofs.root.sqrt.Statement.{statement}
 use Rattle.sqrt.proofs.root.sqrt.Tie as tie
 

@@ -10,8 +10,8 @@ use lib.Pow.{pow-add, pow-pos}
 use borrow.Author.Needs.{needs}
 use borrow.Author.Tests.{ltb-true, ltb-false}
 use Rattle.sqrt.specs.Root.{nearestRoot, rootOf}
-use Rattle.roots.specs.Claims.{rootBits, root-of-no-number}
-use Rattle.roots.specs.Patterns.{root-of-units, reads-subnormal, reads-normal}
+use Rattle.sqrt.proofs.nearest.Theorems.{rootBits, root-of-no-number}
+use Rattle.sqrt.proofs.nearest.Patterns.{root-of-units, reads-subnormal, reads-normal}
 use Rattle.sqrt.proofs.root.sqrt_bits.Statement.{statement}
 use Rattle.sqrt.proofs.root.sqrt_bits.Tie as tie
 

@@ -8,7 +8,7 @@ use mir.Syntax.{w64}
 use mir.Val.{Fits}
 use borrow.Author.Needs.{needs}
 use Rattle.sqrt.specs.Nearest.{Found}
-use Rattle.roots.specs.BitByBit.{bit-set, bit-clear}
+use Rattle.sqrt.proofs.whole.BitByBit.{bit-set, bit-clear}
 use Rattle.sqrt.proofs.root.whole_root.Statement.{statement}
 use Rattle.sqrt.proofs.root.whole_root.Tie as tie
 

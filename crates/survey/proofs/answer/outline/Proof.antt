@@ -6,13 +6,13 @@ use mathlib.Core.Path.{_≡_, sym, ap, _∙_}
 use lib.IntN.{ℤ}
 use borrow.Author.Needs.{needs}
 use Rattle.point.specs.declared.PointI32.{PointI32}
-use Rattle.refusals.specs.declared.Refusal.{Refusal}
-use Rattle.bitmap.specs.Start.{firstStart}
-use Rattle.bitmap.specs.declared.Chart.{Chart}
-use Rattle.bitmap.specs.declared.Start.{Start}
-use Rattle.bitmap.specs.declared.Start.the-variants as Start
-use Rattle.walks.specs.Walk.{Outcome, walked}
-use Rattle.walks.specs.declared.Walked.the-variants as Walked
+use Rattle.point.specs.declared.refusal.Refusal.{Refusal}
+use Rattle.chart.specs.Start.{firstStart}
+use Rattle.chart.specs.declared.Chart.{Chart}
+use Rattle.chart.specs.declared.Start.{Start}
+use Rattle.chart.specs.declared.Start.the-variants as Start
+use Rattle.walker.specs.Walk.{Outcome, walked}
+use Rattle.walker.specs.declared.Walked.the-variants as Walked
 use Rattle.survey.specs.Survey.{outlineFrom, outlineOf}
 use Rattle.survey.proofs.answer.outline.Statement.{statement}
 use Rattle.survey.proofs.answer.outline.Tie as tie

@@ -8,17 +8,17 @@ use lib.ListN.{length, take}
 use mir.Syntax.{w64}
 use mir.Val.{Fits}
 use borrow.Author.Needs.{needs}
-use Rattle.bitmap.specs.declared.Chart.{Chart}
-use Rattle.walks.specs.Answers.{walkedNumber, walkedCount}
-use Rattle.walks.specs.Walk.{Outcome}
-use Rattle.walks.specs.declared.Walked.{Walked}
+use Rattle.chart.specs.declared.Chart.{Chart}
+use Rattle.walker.specs.Answers.{walkedNumber, walkedCount}
+use Rattle.walker.specs.Walk.{Outcome}
+use Rattle.walker.specs.declared.Walked.{Walked}
 use Rattle.texts.specs.Put.{put}
 use Rattle.lines.specs.Turns.{line}
-use Rattle.replies.specs.Reply.{pointsText}
-use Rattle.replies.specs.Room.{room}
+use Rattle.frames.specs.Replies.{pointsText}
+use Rattle.frames.specs.Room.{room}
 use Rattle.texts.proofs.Pieces.{put-then}
-use Rattle.replies.proofs.Parts.{at-most-two}
-use Rattle.walk_reply.specs.Reply.{walkReply}
+use Rattle.frames.proofs.Parts.{at-most-two}
+use Rattle.frames.specs.Calls.{walkReply}
 use Rattle.survey.specs.Survey.{outlineOf, outlined, twoLines, threeLines}
 use Rattle.survey.proofs.Lines.{points-line-short, outline-counts, three-short, place-behind, same-points, part-short}
 use Rattle.survey.proofs.answer.put_lines.Statement.{statement}

@@ -5,12 +5,12 @@ use mathlib.Core.Path.{_≡_}
 use lib.IntN.{ℤ}
 use lib.ListN.{length}
 use borrow.Author.Needs.{needs}
-use Rattle.reduce.specs.Calls.{numberedOf}
+use Rattle.reduce.specs.Reduce.{numberedOf}
 use Rattle.texts.specs.Put.{put}
 use Rattle.lines.specs.Turns.{line}
-use Rattle.replies.specs.Room.{numberRoom}
-use Rattle.reduce_reply.specs.Reply.{numbersReply}
-use Rattle.reduce_reply.proofs.Claims.{numbered-short}
+use Rattle.frames.specs.Room.{numberRoom}
+use Rattle.frames.specs.Calls.{numbersReply}
+use Rattle.frames.proofs.Claims.{numbered-short}
 use Rattle.survey.proofs.Lines.{line-put}
 use Rattle.survey.proofs.answer.put_numbers.Statement.{statement}
 use Rattle.survey.proofs.answer.put_numbers.Tie as tie

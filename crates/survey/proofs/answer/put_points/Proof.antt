@@ -8,8 +8,8 @@ use lib.ListN.{length}
 use borrow.Author.Needs.{needs}
 use Rattle.texts.specs.Put.{put}
 use Rattle.lines.specs.Turns.{line}
-use Rattle.replies.specs.Reply.{pointsText}
-use Rattle.replies.proofs.Sizes.{length-points}
+use Rattle.frames.specs.Replies.{pointsText}
+use Rattle.frames.proofs.Sizes.{length-points}
 use Rattle.survey.proofs.Lines.{line-put}
 use Rattle.survey.proofs.answer.put_points.Statement.{statement}
 use Rattle.survey.proofs.answer.put_points.Tie as tie

@@ -5,7 +5,7 @@ use mathlib.Core.Path.{_≡_, ap, _∙_}
 use borrow.Author.Needs.{needs}
 use Rattle.texts.specs.Put.{Outcome, put}
 use Rattle.lines.specs.Turns.{line}
-use Rattle.replies.specs.Reply.{pointsText}
+use Rattle.frames.specs.Replies.{pointsText}
 use Rattle.survey.specs.Survey.{refusedLine}
 use Rattle.survey.proofs.answer.put_refusal.Statement.{statement}
 use Rattle.survey.proofs.answer.put_refusal.Tie as tie

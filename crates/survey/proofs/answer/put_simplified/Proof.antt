@@ -7,18 +7,17 @@ use native.Mathlib.Omega.{arith}
 use lib.IntN.{ℤ}
 use lib.ListN.{length, take}
 use borrow.Author.Needs.{needs}
-use Rattle.refusals.specs.Refusals.{numberOf, countOf}
-use Rattle.refusals.specs.declared.Answer.{Answer}
-use Rattle.simplify.specs.Calls.{Outcome, simplifyOf}
-use Rattle.reduce.specs.Calls.{numberedOf}
+use Rattle.point.specs.Refusals.{numberOf, countOf}
+use Rattle.point.specs.declared.refusal.Answer.{Answer}
+use Rattle.simplify.specs.Simplify.{Outcome, simplifyOf}
+use Rattle.reduce.specs.Reduce.{numberedOf}
 use Rattle.texts.specs.Put.{put}
 use Rattle.lines.specs.Turns.{line}
-use Rattle.replies.specs.Reply.{pointsText}
-use Rattle.replies.specs.Room.{room, numberRoom}
+use Rattle.frames.specs.Replies.{pointsText}
+use Rattle.frames.specs.Room.{room, numberRoom}
 use Rattle.texts.proofs.Pieces.{put-then}
-use Rattle.simplify_reply.specs.Reply.{simplifyReply}
-use Rattle.simplify_reply.proofs.Room.{kept-fit, kept-part}
-use Rattle.reduce_reply.specs.Reply.{numbersReply}
+use Rattle.frames.specs.Calls.{simplifyReply, numbersReply}
+use Rattle.frames.proofs.Room.{kept-fit, kept-part}
 use Rattle.survey.specs.Survey.{kept, twoLines}
 use Rattle.survey.proofs.Lines.{points-line-short, two-short, place-behind, same-points, part-short}
 use Rattle.survey.proofs.answer.put_simplified.Statement.{statement}

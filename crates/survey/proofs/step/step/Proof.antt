@@ -7,9 +7,9 @@ use native.Mathlib.Omega.{arith}
 use lib.ListN.{length}
 use borrow.Author.Needs.{needs}
 use Rattle.laws.specs.Lists.{over}
-use Rattle.refusals.specs.Refusals.{refusalNumber}
-use Rattle.refusals.specs.declared.Refusal.{Refusal}
-use Rattle.bitmap.specs.declared.Chart.{Chart}
+use Rattle.point.specs.Refusals.{refusalNumber}
+use Rattle.point.specs.declared.refusal.Refusal.{Refusal}
+use Rattle.chart.specs.declared.Chart.{Chart}
 use Rattle.texts.specs.Put as Put
 use Rattle.texts.specs.Put.{put}
 use Rattle.texts.proofs.Pieces.{put-fits}

@@ -2,7 +2,7 @@
 -- measure is what is left of the step limit. Assumes nothing.
 use Prim.Native.Nat.{_-_}
 use borrow.Author.Needs.{needs}
-use Rattle.walks.proofs.Counting.{Counting, count-first, count-fits, count-stuck, count-less, count-last, count-on}
+use Rattle.walker.proofs.course.Counting.{Counting, count-first, count-fits, count-stuck, count-less, count-last, count-on}
 use Rattle.walker.proofs.course.count.Statement.{statement}
 use Rattle.walker.proofs.course.count.Tie as tie
 

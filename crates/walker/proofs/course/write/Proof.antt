@@ -2,7 +2,7 @@
 -- is left of the step limit. Assumes nothing.
 use Prim.Native.Nat.{_-_}
 use borrow.Author.Needs.{needs}
-use Rattle.walks.proofs.Writing.{Writing, write-first, write-fits, write-room, write-less, write-length, write-last, write-on}
+use Rattle.walker.proofs.course.Writing.{Writing, write-first, write-fits, write-room, write-less, write-length, write-last, write-on}
 use Rattle.walker.proofs.course.write.Statement.{statement}
 use Rattle.walker.proofs.course.write.Tie as tie
 

@@ -1,0 +1,15 @@
+-- `pixels::inside` meets its contract, test by test. Assumes nothing.
+use borrow.Author.Needs.{needs}
+use Rattle.chart.proofs.Sizes.{too-wide, too-far, by-row}
+use Rattle.chart.proofs.pixels.inside.Statement.{statement}
+use Rattle.chart.proofs.pixels.inside.Tie as tie
+
+ruleset laws = (too-wide, too-far, by-row, needs)
+
+pub inside-spec : {M : Type 1} → statement M
+inside-spec =
+    tie.close
+    (tie.spec
+    (λ c. search laws)  -- returns
+    (λ c. search laws)  -- returns-2
+    (λ c. search laws))  -- returns-3

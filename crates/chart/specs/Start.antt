@@ -1,0 +1,61 @@
+-- Document 01: "First start (added): the top left corner of the first set pixel, row by row; a blank chart gives NoWay."
+use Prim.Native.Nat.{ℕ, zero, suc, _≤_, _<_}
+use mathlib.Core.Path.{_≡_}
+use mathlib.Core.Bool.{Bool, true, false}
+use mathlib.Core.List.{List}
+use mathlib.Core.Option.{Option, some, none}
+use lib.Dec.{ltb}
+use lib.IntN.{pos}
+use Rattle.point.specs.Refusals.{refuse_when_or_}
+use Rattle.point.specs.declared.PointI32.{PointI32}
+use Rattle.point.specs.declared.refusal.Refusal.{Refusal}
+use Rattle.point.specs.declared.refusal.Refusal.the-variants.{BadSize, NoWay}
+use Rattle.chart.specs.Pixels.{bitOf, cell, badChart}
+use Rattle.chart.specs.declared.Chart.{Chart}
+use Rattle.chart.specs.declared.Start.{Start}
+use Rattle.chart.specs.declared.Start.the-variants.{At, Refused}
+
+abbrev pub pointIf : Bool → PointI32 → Option PointI32
+pointIf true p = some p
+pointIf false p = none
+
+-- the first set one among n pixels of row y, from column x on
+unfoldable pub firstInRow : Chart → List ℕ → ℕ → ℕ → ℕ → Option PointI32
+unfolding cell
+firstInRow c pixels x y zero = none
+firstInRow c pixels x y (suc n) = elim (cell c pixels x y) [ true ↦ some (record { x = pos x; y = pos y }) | false ↦ firstInRow c pixels (suc x) y n ]
+
+-- the point in column x of row y, or none where x is past the last column
+unfoldable pub columnOf : Chart → ℕ → ℕ → Option PointI32
+columnOf c x y = pointIf (ltb x (c .width)) (record { x = pos x; y = pos y })
+
+-- r is the column of a byte's first set pixel, or 8 where it has none
+pub record FirstBit (byte r : ℕ) : Type 0 where
+  pub few : r ≤ 8
+  pub clear : (j : ℕ) → j < r → bitOf byte j ≡ false
+  pub set : r < 8 → bitOf byte r ≡ true
+
+-- the first of a row, or else what comes after it
+abbrev pub orElse : Option PointI32 → Option PointI32 → Option PointI32
+orElse (some p) later = some p
+orElse none later = later
+
+-- the first set pixel of n rows from row y on
+unfoldable pub firstInRows : Chart → List ℕ → ℕ → ℕ → Option PointI32
+unfolding firstInRow
+firstInRows c pixels y zero = none
+firstInRows c pixels y (suc n) = orElse (firstInRow c pixels 0 y (c .width)) (firstInRows c pixels (suc y) n)
+
+-- "a blank chart gives NoWay"
+abbrev pub startOr : Option PointI32 → Start
+startOr (some p) = At p
+startOr none = Refused NoWay
+
+unfoldable pub startAnswer : Option Refusal → Chart → List ℕ → Start
+unfolding firstInRows
+startAnswer (some r) c pixels = Refused r
+startAnswer none c pixels = startOr (firstInRows c pixels 0 (c .height))
+
+unfoldable pub firstStart : Chart → List ℕ → Start
+unfolding startAnswer
+firstStart c pixels = startAnswer (refuse BadSize when badChart c pixels or none) c pixels

@@ -1,4 +1,0 @@
-pub mod Flat
-pub mod Written
-pub mod Room
-pub mod Claims

@@ -1,3 +1,0 @@
-pub mod Costly
-pub mod Reached
-pub mod Claims

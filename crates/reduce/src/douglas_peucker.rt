@@ -1,0 +1,40 @@
+// Douglas-Peucker, over the splits of the crate `split`.
+ghost use mathlib.Core.Path.{_≡_};
+ghost use Rattle.reduce.specs.DouglasPeucker.{douglasPeuckerOf};
+use crate::keep;
+use point::Answer;
+use point::Refusal;
+
+// Puts the points that Douglas-Peucker keeps at the start of `out`, and a mark for each point of the
+// list at the start of `marks`: 1 if it is kept, 0 if not.
+pub fn simplify_douglas_peucker(
+    points: &[i32],
+    tolerance: f64,
+    out: &mut [i32],
+    marks: &mut [u8],
+) -> Answer
+    ensures { λ r. ⌜ record { answer = r; out = now (out .exit); marks = now (marks .exit) }
+        ≡ douglasPeuckerOf (now (points .entry)) tolerance (now (out .entry)) (now (marks .entry)) ⌝ }
+{
+    let n = points.len() / 2;
+    if point::too_many(points.len()) {
+        return Answer::Refused(Refusal::TooMany);
+    }
+    if point::bad_points(points) {
+        return Answer::Refused(Refusal::BadPoint);
+    }
+    if n == 0 {
+        return Answer::Refused(Refusal::TooFew);
+    }
+    if point::bad_sq_tolerance(tolerance) {
+        return Answer::Refused(Refusal::BadTolerance);
+    }
+    if out.len() / 2 < point::places_for(n) {
+        return Answer::Refused(Refusal::NoRoom);
+    }
+    if marks.len() < n {
+        return Answer::Refused(Refusal::NoRoom);
+    }
+    split::mark(points, tolerance, marks);
+    keep::keep_marked(points, marks, out)
+}

@@ -1,3 +1,0 @@
--- The words of every promise: the refusals, their numbers, and how they are listed.
-pub mod Refusals
-pub mod Examples

@@ -1,4 +1,0 @@
-pub mod Behind
-pub mod Sizes
-pub mod Parts
-pub mod Claims

@@ -1,0 +1,14 @@
+-- `round_refusals::within` meets its contract: its two tests, joined. Assumes nothing.
+use borrow.Author.Needs.{needs}
+use Rattle.laws.specs.Joined.{and-itself, and-second}
+use Rattle.smooth.proofs.tests.within.Statement.{statement}
+use Rattle.smooth.proofs.tests.within.Tie as tie
+
+ruleset laws = (and-itself, and-second, needs)
+
+pub within-spec : {M : Type 1} → statement M
+within-spec =
+    tie.close
+    (tie.spec
+    (λ c. search laws)  -- returns
+    (λ c. search laws))  -- returns-2

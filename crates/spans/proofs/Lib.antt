@@ -1,4 +1,0 @@
--- Laws, leaves first: `Claims` has what callers cite.
-pub mod Distances
-pub mod Folds
-pub mod Claims

@@ -1,0 +1,3 @@
+pub mod Spiral
+pub mod Answers
+pub mod Examples

@@ -1,4 +1,0 @@
--- What the crate promises: `Spiral` follows the Rust's SpiralWalker, `Answers` numbers what is answered.
-pub mod Spiral
-pub mod Answers
-pub mod Examples

@@ -1,0 +1,4 @@
+pub mod BitByBit
+pub mod ByHalves
+pub mod WholeRoot
+pub mod WholeUnits

@@ -1,2 +1,0 @@
-pub mod Outward
-pub mod Claims

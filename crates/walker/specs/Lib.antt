@@ -1,0 +1,5 @@
+pub mod Limit
+pub mod Walk
+pub mod Answers
+pub mod inside
+pub mod Examples

@@ -1,0 +1,47 @@
+// A number below zero or not, read from a word.
+ghost use mathlib.Core.Path.{_≡_};
+ghost use Rattle.words.specs.Decimal.{fromZero, belowZero, integerOf};
+use crate::natural::Natural;
+use crate::natural::read_natural;
+
+pub enum Integer {
+    Is(i32),
+    Not,
+}
+
+// A number of decimal digits, zeros in front of it or not, and a minus sign or not, that 32 bits hold.
+pub fn read_integer(word: &[u8]) -> Integer
+    ensures { λ r. ⌜ r ≡ integerOf (now (word .entry)) ⌝ }
+{
+    if word.len() == 0 {
+        return Integer::Not;
+    }
+    if word[0] == b'-' {
+        return below_zero(read_natural(&word[1..]));
+    }
+    from_zero(read_natural(word))
+}
+
+fn from_zero(n: Natural) -> Integer
+    ensures { λ r. ⌜ r ≡ fromZero n ⌝ }
+{
+    let Natural::Is(v) = n else {
+        return Integer::Not;
+    };
+    if 2147483647 < v {
+        return Integer::Not;
+    }
+    Integer::Is(v as i32)
+}
+
+fn below_zero(n: Natural) -> Integer
+    ensures { λ r. ⌜ r ≡ belowZero n ⌝ }
+{
+    let Natural::Is(v) = n else {
+        return Integer::Not;
+    };
+    if 2147483648 < v {
+        return Integer::Not;
+    }
+    Integer::Is((-(v as i64)) as i32)
+}
