@@ -12,7 +12,8 @@ use lib.Count.{ones, ones-le, leadingZeros, leading-le, leading-length}
 use lib.Dec.{eqb}
 use lib.ListN.{getD}
 use lib.Pow.{shr-shr, pow-mono}
-use Rattle.laws.specs.Bits.{setBits, ones-is, ones-first}
+use Rattle.laws.specs.Bits.{setBits}
+use Rattle.laws.proofs.Bits.{ones-is, ones-first}
 use Rattle.chart.specs.Pixels.{bitOf, bitAt, one}
 use Rattle.chart.specs.Start.{FirstBit}
 

@@ -8,7 +8,7 @@ use lib.Dec.{leb, ltb}
 use lib.IntN.{ℤ, pos, negsuc, _-ℤ_}
 use lib.Signed.{leZ, ltZ}
 use borrow.Author.Tests.{ltb-true, leb-true, le-leb, le-ltb}
-use Rattle.laws.specs.Integers.{subℕ-cases}
+use Rattle.laws.proofs.Integers.{subℕ-cases}
 use Rattle.chart.specs.declared.Chart.{Chart}
 use Rattle.chart.specs.Pixels.{inside, pixelAt, aroundOf}
 

@@ -12,8 +12,8 @@ use lib.IntN.{ℤ, pos, _-ℤ_}
 use lib.ListN.{length, getD, List·getD-eq-default}
 use lib.Bits.{bitAnd}
 use borrow.Author.Tests.{le-leb, lt-leb, lt-ltb, leb-true, ltb-true, not-true, not-false}
-use Rattle.laws.specs.Joined.{both-true}
-use Rattle.laws.specs.Bits.{digit-is}
+use Rattle.laws.proofs.Joined.{both-true}
+use Rattle.laws.proofs.Bits.{digit-is}
 use Rattle.chart.specs.declared.Chart.{Chart}
 use Rattle.chart.specs.Pixels.{rowBytes, bitAt, cell, inside, pixelAt, one, pairOf, aroundOf, surrounded}
 use Rattle.chart.proofs.Outside.{minus-one, above}

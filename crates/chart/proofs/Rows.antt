@@ -9,8 +9,9 @@ use mir.Syntax.{w64}
 use mir.Val.{Fits}
 use lib.ListN.{length, getD}
 use borrow.Author.Tests.{ltb-false}
-use Rattle.laws.specs.Joined.{both-false}
-use Rattle.laws.specs.Bits.{setBits, setBits-le, setBits-next}
+use Rattle.laws.proofs.Joined.{both-false}
+use Rattle.laws.specs.Bits.{setBits}
+use Rattle.laws.proofs.Bits.{setBits-le, setBits-next}
 use Rattle.chart.specs.declared.Chart.{Chart}
 use Rattle.chart.specs.Pixels.{side, rowBytes, badChart, Good, bitOf, cell, one}
 use Rattle.chart.specs.Area.{rowArea, rowsArea}

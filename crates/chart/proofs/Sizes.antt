@@ -8,7 +8,7 @@ use mir.Syntax.{w64}
 use mir.Val.{Fits}
 use lib.Dec.{leb, ltb}
 use borrow.Author.Tests.{le-leb, lt-leb, le-ltb, lt-ltb, leb-true, ltb-true, not-false}
-use Rattle.laws.specs.Joined.{both-true}
+use Rattle.laws.proofs.Joined.{both-true}
 use Rattle.chart.specs.declared.Chart.{Chart}
 use Rattle.chart.specs.Pixels.{side, rowBytes, inside}
 

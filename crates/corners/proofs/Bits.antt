@@ -6,7 +6,7 @@ use mir.Syntax.{w64}
 use mir.Val.{ofZ, toZ}
 use mir.ValLaws.{toZ-ofZ}
 use lib.IntN.{ℤ, natAbs}
-use Rattle.laws.specs.Integers.{sfits-abs}
+use Rattle.laws.proofs.Integers.{sfits-abs}
 
 pub wide-by-bits : (z : ℤ) → natAbs z ≤ 2147221512000 → toZ w64 (ofZ w64 z) ≡ z
 wide-by-bits z h = toZ-ofZ w64 z (sfits-abs (omega arith))

@@ -7,7 +7,7 @@ use native.Mathlib.Omega.{arith}
 use lib.Dec.{ltb}
 use lib.ListN.{length}
 use borrow.Author.Tests.{lt-ltb}
-use Rattle.laws.specs.If.{if-cases}
+use Rattle.laws.proofs.If.{if-cases}
 use Rattle.words.specs.Into.{prepend}
 use Rattle.words.specs.Pairs.{pairOf, bytesOf}
 use Rattle.frames.specs.Answer.{badReply, bytesReply, answerTo}

@@ -11,7 +11,7 @@ use lib.Seq.{length-take-le, take-at, drop-at, append-snoc}
 use borrow.Author.Tests.{ltb-true, ltb-false, eqb-true, eqb-false}
 use Rattle.words.specs.Line.{upTo}
 use Rattle.words.proofs.Parts.{upTo-le}
-use Rattle.laws.specs.Joined.{both-false, or-second}
+use Rattle.laws.proofs.Joined.{both-false, or-second}
 use Rattle.lines.specs.If.{if-cases}
 use Rattle.lines.specs.Reader.{Outcome, fedReader, inside, past, lineEnds, inputEnds, count, held, newline, refill, took, taken}
 use Rattle.lines.specs.declared.reader.Reader.{Reader}

@@ -8,14 +8,14 @@ use native.Mathlib.Nat.{le-refl, eq-or-lt-of-le}
 use native.Mathlib.Omega.{arith}
 use lib.IntN.{ℤ}
 use lib.Ieee.{Float, lt}
-use Rattle.laws.specs.Order.{AtLeastZero, at-least-zero, lt-irreflexive, lt-asymmetric, lt-transitive, ge-transitive, le-lt-transitive}
+use Rattle.laws.proofs.Order.{AtLeastZero, at-least-zero, lt-irreflexive, lt-asymmetric, lt-transitive, ge-transitive, le-lt-transitive}
 use Rattle.point.specs.Points.{pointAt}
 use Rattle.split.specs.declared.farthest.Far.{Far}
 use Rattle.split.specs.Farthest.{distanceIn, farther, farthest}
-use Rattle.split.specs.Small.{Small}
+use Rattle.split.specs.inside.Small.{Small}
 use Rattle.split.proofs.Distances.{distance-nonneg, distance-fits}
 use Rattle.split.proofs.Folds.{far, Over, over-first, over-rest, by-test, farther-any}
-use Rattle.split.specs.Spans.{Distance}
+use Rattle.split.specs.inside.Spans.{Distance}
 use Rattle.split.specs.Tree.{spanTree}
 use Rattle.split.proofs.Trees.{Each, by-spans, middle, reach, split-inside}
 

@@ -7,8 +7,9 @@ use mathlib.Core.Logic.{_⊎_, inl, inr}
 use mathlib.Core.Path.{_≡_, refl, sym, ap, ap₂, subst, _∙_}
 use lib.Ieee.{Float, lt}
 use lib.ListN.{getD, replicate, replicate-append-replicate}
-use Rattle.laws.specs.Order.{AtLeastZero}
-use Rattle.laws.specs.Least.{least, least-at-least-zero, least-cases}
+use Rattle.laws.proofs.Order.{AtLeastZero}
+use Rattle.laws.specs.Least.{least}
+use Rattle.laws.proofs.Least.{least-at-least-zero, least-cases}
 use Rattle.split.specs.Tree.{Tree, leaf, node, size, cut, down}
 use Rattle.reduce.specs.Kept.{mark}
 use Rattle.split.proofs.Cuts.{cut-kept, cut-dropped}

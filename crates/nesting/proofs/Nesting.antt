@@ -13,14 +13,15 @@ use lib.IntN.{ℤ, pos, natAbs}
 use lib.Ieee.{Float, nan, inf, fin, isNan, lt, le}
 use lib.ListN.{length, getD, List·getD-map, List·getD-eq-default}
 use borrow.Author.Tests.{ltb-true, ltb-false, eq-eqb, ne-eqb, le-ltb, not-true, not-false}
-use Rattle.laws.specs.Compare.{le-is}
-use Rattle.laws.specs.Finite.{Below, NonNeg, below-number, nonneg-number, infinity-nonneg}
-use Rattle.laws.specs.Order.{AtLeastZero, at-least-zero}
-use Rattle.laws.specs.Ranges.{between-below}
+use Rattle.laws.proofs.Compare.{le-is}
+use Rattle.laws.proofs.Finite.{Below, below-number, nonneg-number, infinity-nonneg}
+use Rattle.laws.specs.Finite.{NonNeg}
+use Rattle.laws.proofs.Order.{AtLeastZero, at-least-zero}
+use Rattle.laws.proofs.Ranges.{between-below}
 use Rattle.point.specs.Limits.{tooMany, badPoints, badSqTolerance, within}
 use Rattle.point.proofs.Claims.{coordinates-fit}
 use Rattle.split.specs.Distance.{sqSegDist}
-use Rattle.split.specs.Small.{Small}
+use Rattle.split.specs.inside.Small.{Small}
 use Rattle.split.specs.Tree.{count, pointAt, distanceIn, farthest, framed, spanTree, tree, cut, down, marksOf, numbersOf}
 use Rattle.split.proofs.Distances.{distance-below, distance-nonneg}
 use Rattle.split.proofs.Frames.{framed-many, framed-one}

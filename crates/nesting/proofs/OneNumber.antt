@@ -15,7 +15,8 @@ use lib.ListN.{length, getD, take, drop, replicate, length-map, length-append}
 use lib.Seq.{getD-at}
 use borrow.Author.Tests.{ne-eqb, le-ltb}
 use Rattle.laws.specs.If.{if_then_else_}
-use Rattle.laws.specs.Lists.{over, getD-over-front, take-over-all}
+use Rattle.laws.specs.Lists.{over}
+use Rattle.laws.proofs.Lists.{getD-over-front, take-over-all}
 use Rattle.point.specs.Refusals.{countOf}
 use Rattle.point.specs.declared.refusal.Answer.the-variants.{Done}
 use Rattle.point.specs.Limits.{tooMany, badPoints, badSqTolerance}

@@ -4,8 +4,9 @@ use Prim.Native.Nat.{zero, suc}
 use mathlib.Core.Bool.{true, false, _&&_, true≢false}
 use mathlib.Core.Path.{_≡_, refl, sym, _∙_}
 use lib.Ieee.{Float, nan, inf, fin, lt}
-use Rattle.laws.specs.Order.{AtLeastZero, ge-transitive, lt-le-transitive, le-lt-transitive}
-use Rattle.laws.specs.Least.{least, least-cases, lt-least}
+use Rattle.laws.proofs.Order.{AtLeastZero, ge-transitive, lt-le-transitive, le-lt-transitive}
+use Rattle.laws.specs.Least.{least}
+use Rattle.laws.proofs.Least.{least-cases, lt-least}
 use Rattle.split.proofs.Distances.{under-all}
 
 data Kind (t : Float) : Type 0 where

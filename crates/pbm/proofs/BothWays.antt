@@ -8,7 +8,8 @@ use mathlib.Core.Option.{some}
 use mathlib.Core.Path.{_≡_, refl, sym, ap, _∙_}
 use lib.ListN.{length, take, drop}
 use lib.Seq.{drop-append-seam}
-use Rattle.laws.specs.Lists.{over, take-over-all}
+use Rattle.laws.specs.Lists.{over}
+use Rattle.laws.proofs.Lists.{take-over-all}
 use Rattle.point.specs.declared.refusal.Answer.the-variants.{Done}
 use Rattle.chart.specs.Pixels.{rowBytes, cell, one, badChart}
 use Rattle.chart.specs.declared.Chart.{Chart}

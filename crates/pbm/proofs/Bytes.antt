@@ -12,7 +12,8 @@ use lib.ListN.{length, getD, set, drop, length-append, List·getD-append}
 use lib.Pow.{shr-shr}
 use lib.Seq.{getD-at}
 use borrow.Author.Tests.{lt-ltb, le-ltb, ltb-true}
-use Rattle.laws.specs.Lists.{over, over-push}
+use Rattle.laws.specs.Lists.{over}
+use Rattle.laws.proofs.Lists.{over-push}
 use Rattle.chart.specs.Pixels.{rowBytes, bitOf, cell, one}
 use Rattle.chart.specs.declared.Chart.{Chart}
 use Rattle.chart.proofs.Digits.{digit}

@@ -12,7 +12,7 @@ use lib.Dec.{eqb}
 use lib.ListN.{length, getD, take, drop, drop-of-length-le}
 use lib.Seq.{drop-cons, drop-drop, getD-drop, getD-take}
 use borrow.Author.Tests.{eqb-true, ne-eqb, le-leb, lt-leb}
-use Rattle.laws.specs.Joined.{both-false}
+use Rattle.laws.proofs.Joined.{both-false}
 use Rattle.chart.specs.Pixels.{one}
 use Rattle.pbm.specs.Header.{white}
 use Rattle.pbm.specs.Raster.{Sign, blank, pixel, wrong, signOf, Digits, onto, digitsIn}

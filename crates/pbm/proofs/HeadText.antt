@@ -10,7 +10,8 @@ use lib.ListN.{length, drop, set, length-append, length-set}
 use lib.Seq.{append-snoc, sets-eq}
 use borrow.Author.Tests.{ltb-false}
 use Rattle.laws.specs.If.{if_then_else_}
-use Rattle.laws.specs.Lists.{over, length-over}
+use Rattle.laws.specs.Lists.{over}
+use Rattle.laws.proofs.Lists.{length-over}
 use Rattle.chart.specs.Pixels.{side, rowBytes, cell}
 use Rattle.chart.specs.declared.Chart.{Chart}
 use Rattle.texts.specs.Text.{glyphOf, decimalDigits, naturalText}

@@ -11,7 +11,7 @@ use lib.ListN.{length, getD, drop}
 use mir.Syntax.{w64}
 use mir.Val.{Fits}
 use borrow.Author.Tests.{lt-ltb, le-ltb, ltb-true, ltb-false, not-false}
-use Rattle.laws.specs.Joined.{both-false}
+use Rattle.laws.proofs.Joined.{both-false}
 use Rattle.chart.specs.Pixels.{rowBytes, side, cell}
 use Rattle.chart.specs.declared.Chart.{Chart}
 use Rattle.chart.proofs.Sizes.{side-within}

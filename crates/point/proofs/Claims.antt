@@ -14,8 +14,8 @@ use Rattle.point.specs.Refusals.{refusalNumber, numberOf, countOf}
 use Rattle.point.proofs.refusal.Refusal.number.Reads.{Post as Refusal-number}
 use Rattle.point.proofs.refusal.Answer.number.Reads.{Post as Answer-number}
 use Rattle.point.proofs.refusal.Answer.count.Reads.{Post as Answer-count}
-use Rattle.laws.specs.Integers.{range-true}
-use Rattle.laws.specs.Joined.{both-true, both-false}
+use Rattle.laws.proofs.Integers.{range-true}
+use Rattle.laws.proofs.Joined.{both-true, both-false}
 use Rattle.point.specs.Limits.{every, inRange, inRangeF64, badList, badPoints, badPointsF64, badTolerance, badSqTolerance, tooMany, placesFor}
 use Rattle.point.proofs.limits.too_many.Reads.{Post as Too-many}
 use Rattle.point.proofs.limits.in_range.Reads.{Post as In-range}
@@ -29,7 +29,7 @@ use Rattle.point.specs.declared.PointI32.{PointI32}
 use Rattle.point.specs.Points.{pointAt, flat}
 use Rattle.point.proofs.list.point_at.Reads.{Post as Point-at}
 use Rattle.point.proofs.list.put.Reads.{Post as Put}
-use Rattle.laws.specs.Lists.{length-over}
+use Rattle.laws.proofs.Lists.{length-over}
 use Rattle.point.specs.declared.refusal.Answer.the-variants.{Refused}
 use Rattle.point.specs.declared.refusal.Refusal.{Refusal}
 use Rattle.point.proofs.Flat.{length-flat}

@@ -23,7 +23,7 @@ use Rattle.reduce.proofs.keep.Handed.{next, places, marks-fit}
 use Rattle.reduce.specs.Zoom.{Numbered, numbersRefusal, numbersOutcome, numberedOf, zoomRefusal, zoomOutcome, zoomOf}
 use Rattle.reduce.proofs.numbering.numbers.Reads.{Post as Numbers}
 use Rattle.reduce.proofs.zooming.zoom.Reads.{Post as Zoom}
-use Rattle.laws.specs.Joined.{both-false}
+use Rattle.laws.proofs.Joined.{both-false}
 use Rattle.split.specs.Tree.{marksOf}
 use Rattle.reduce.specs.DouglasPeucker.{Marked, splitRefusal, splitOutcome, douglasPeuckerOf}
 use Rattle.reduce.proofs.douglas_peucker.simplify_douglas_peucker.Reads.{Post as Douglas-peucker}

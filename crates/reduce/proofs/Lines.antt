@@ -10,7 +10,7 @@ use lib.Ieee.{Float, binary64, ofInt, ofBits, eq}
 use lib.IntN.{ℤ, pos}
 use lib.ListN.{length}
 use borrow.Author.Tests.{leb-false, ltb-false}
-use Rattle.laws.specs.Joined.{both-false}
+use Rattle.laws.proofs.Joined.{both-false}
 use Rattle.point.specs.Limits.{tooMany, badPoints, badTolerance, inRange, placesFor}
 use Rattle.point.proofs.Claims.{whole-points}
 use Rattle.point.specs.Points.{count}

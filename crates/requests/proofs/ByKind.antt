@@ -8,7 +8,7 @@ use lib.Dec.{eqb}
 use lib.IntN.{ℤ}
 use lib.ListN.{length, getD, drop}
 use borrow.Author.Tests.{eqb-true, ne-eqb, le-ltb, lt-ltb, not-true, not-false}
-use Rattle.laws.specs.Joined.{both-true}
+use Rattle.laws.proofs.Joined.{both-true}
 use Rattle.laws.specs.If.{if_then_else_}
 use Rattle.point.specs.declared.PointI32.{PointI32}
 use Rattle.chart.specs.Pixels.{rowBytes}

@@ -9,8 +9,8 @@ use lib.IntN.{ℤ}
 use lib.ListN.{length, getD, take, drop}
 use denote.Ref.{now}
 use borrow.Author.Tests.{eqb-true, ltb-false, le-leb}
-use Rattle.laws.specs.Joined.{both-true}
-use Rattle.laws.specs.Lists.{take-over-all}
+use Rattle.laws.proofs.Joined.{both-true}
+use Rattle.laws.proofs.Lists.{take-over-all}
 use Rattle.laws.specs.If.{if_then_else_}
 use Rattle.chart.specs.Pixels.{rowBytes}
 use Rattle.requests.specs.Frame.{Request, walk, simplify, reduce, numbers, no-frame, wordAt, valuesOf, clockwise, directed, chartIn, startIn, walkIn, simplifyIn, reduceIn, numbersIn, kindIn, requestIn}

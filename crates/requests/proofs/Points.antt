@@ -9,7 +9,7 @@ use lib.IntN.{ℤ}
 use lib.ListN.{length, getD, take, drop, length-drop}
 use lib.Seq.{take-all}
 use borrow.Author.Tests.{leb-true, leb-false, eqb-true, le-leb, lt-leb, not-true, not-false}
-use Rattle.laws.specs.Joined.{both-true}
+use Rattle.laws.proofs.Joined.{both-true}
 use Rattle.laws.specs.Lists.{over}
 use Rattle.laws.specs.If.{if_then_else_}
 use Rattle.requests.specs.Frame.{wordAt, valuesOf, clockwise, simplifyIn, reduceIn, numbersIn, simplify, reduce, numbers, no-frame, Request}

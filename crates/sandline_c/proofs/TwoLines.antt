@@ -8,7 +8,8 @@ use lib.Ieee.{Float, nan}
 use lib.ListN.{length, getD, set}
 use borrow.Author.Needs.{needs}
 use borrow.Author.Tests.{eq-eqb, ne-eqb}
-use Rattle.laws.specs.Lists.{over, over-push-two}
+use Rattle.laws.specs.Lists.{over}
+use Rattle.laws.proofs.Lists.{over-push-two}
 use Rattle.point.specs.declared.PointF64.{PointF64}
 use Rattle.point.specs.declared.refusal.Refusal.{Refusal}
 use Rattle.util.specs.Ratios.{outsideOf, insideOf, coincideOf}

@@ -9,7 +9,7 @@ use native.Mathlib.Omega.{arith}
 use lib.Dec.{lit<}
 use lib.IntN.{ℤ}
 use lib.ListN.{length, take}
-use Rattle.laws.specs.Lists.{take-over-all}
+use Rattle.laws.proofs.Lists.{take-over-all}
 use Rattle.point.specs.Limits.{placesFor}
 use Rattle.point.specs.Points.{flat, points, count}
 use Rattle.point.specs.Refusals.{countOf}

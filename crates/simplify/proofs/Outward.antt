@@ -10,7 +10,7 @@ use lib.IntN.{ℤ}
 use lib.ListN.{length, drop, getD, drop-of-length-le}
 use lib.Seq.{drop-cons}
 use borrow.Author.Tests.{eq-eqb}
-use Rattle.laws.specs.Joined.{both-true}
+use Rattle.laws.proofs.Joined.{both-true}
 use Rattle.point.specs.Limits.{every, inRange, badList, badPoints, placesFor}
 use Rattle.point.specs.Points.{flat, points, count}
 use Rattle.point.specs.declared.PointI32.{PointI32}

@@ -10,9 +10,9 @@ use lib.IntN.{pos}
 use lib.Ieee.{Float, nan, inf, fin, binary64, ofInt, up, down, isNan, lt}
 use lib.Ieee.Fits.{down-pos}
 use borrow.Author.Tests.{ltb-true, ltb-false, not-true, not-false}
-use Rattle.laws.specs.Compare.{le-is, le-nan}
-use Rattle.laws.specs.Finite.{ofInt-nonneg}
-use Rattle.laws.specs.Order.{AtLeastZero, ZeroOrMore, at-least-zero, lt-asymmetric, ge-transitive, lt-le-transitive}
+use Rattle.laws.proofs.Compare.{le-is, le-nan}
+use Rattle.laws.proofs.Finite.{ofInt-nonneg}
+use Rattle.laws.proofs.Order.{AtLeastZero, ZeroOrMore, at-least-zero, lt-asymmetric, ge-transitive, lt-le-transitive}
 use Rattle.laws.specs.If.{if_then_else_}
 use Rattle.simplify.specs.Penalties.{greatest}
 use Rattle.simplify.specs.inside.Costs.{reaches}

@@ -5,7 +5,8 @@ use mathlib.Core.Path.{_≡_, refl, sym, ap, _∙_}
 use native.Mathlib.Omega.{arith}
 use lib.Ieee.{Float}
 use lib.ListN.{length, set, length-append, length-set}
-use Rattle.laws.specs.Lists.{over, over-push, over-push-two}
+use Rattle.laws.specs.Lists.{over}
+use Rattle.laws.proofs.Lists.{over-push, over-push-two}
 use Rattle.point.specs.declared.PointF64.{PointF64}
 use Rattle.smooth.specs.Round.{flat}
 use Rattle.smooth.specs.inside.Parts.{putPoints, putFlags}

@@ -9,7 +9,7 @@ use lib.Dec.{ltb, eqb}
 use lib.Ieee.{Float}
 use lib.ListN.{length}
 use borrow.Author.Tests.{ltb-false, eqb-true, not-false}
-use Rattle.laws.specs.Joined.{both-false}
+use Rattle.laws.proofs.Joined.{both-false}
 use Rattle.point.specs.Limits.{tooMany, badPointsF64, every}
 use Rattle.laws.specs.If.{if_then_else_}
 use Rattle.point.specs.Refusals.{refuse_when_or_}

@@ -8,7 +8,8 @@ use native.Mathlib.Numerals.{add-one}
 use native.Mathlib.Omega.{arith}
 use lib.Ieee.{Float}
 use lib.ListN.{length, set, length-append}
-use Rattle.laws.specs.Lists.{over, over-nil}
+use Rattle.laws.specs.Lists.{over}
+use Rattle.laws.proofs.Lists.{over-nil}
 use Rattle.point.specs.declared.PointF64.{PointF64}
 use Rattle.smooth.specs.declared.scheme.Settings.{Settings}
 use Rattle.smooth.specs.declared.subdivide.Step.{Step}

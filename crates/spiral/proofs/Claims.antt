@@ -15,7 +15,7 @@ use prog.Memory.{Memory}
 use prog.Routine.{Routine}
 use prog.Wp.{Heap}
 use denote.Ref.{now}
-use Rattle.laws.specs.Integers.{abs-sub-le, range-low, range-high}
+use Rattle.laws.proofs.Integers.{abs-sub-le, range-low, range-high}
 use Rattle.laws.specs.If.{if_then_else_}
 use Rattle.point.specs.declared.PointI32.{PointI32}
 use Rattle.point.specs.declared.refusal.Refusal.{Refusal}

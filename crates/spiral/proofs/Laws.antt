@@ -13,8 +13,8 @@ use lib.IntN.{ℤ, pos, negsuc, natAbs, _+ℤ_}
 use lib.Signed.{leZ, ltZ, mag}
 use borrow.Author.Needs.{sfits-of}
 use borrow.Author.Tests.{leb-true, ltb-true, eq-eqb, ne-eqb}
-use Rattle.laws.specs.Integers.{sfits-abs, abs-add-le, range-true}
-use Rattle.laws.specs.Joined.{both-true}
+use Rattle.laws.proofs.Integers.{sfits-abs, abs-add-le, range-true}
+use Rattle.laws.proofs.Joined.{both-true}
 use Rattle.spiral.specs.Spiral.{between, placed, paced, sound, turned, along}
 use Rattle.spiral.specs.declared.SpiralWalker.{SpiralWalker}
 

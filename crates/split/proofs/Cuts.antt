@@ -6,7 +6,8 @@ use mathlib.Core.List.{List, _∷_, _++_}
 use mathlib.Core.Path.{_≡_, refl, ap, ap₂, _∙_}
 use lib.Ieee.{Float, lt}
 use lib.ListN.{length, replicate, length-append, length-replicate, replicate-append-replicate}
-use Rattle.laws.specs.Least.{least, least-first}
+use Rattle.laws.specs.Least.{least}
+use Rattle.laws.proofs.Least.{least-first}
 use Rattle.split.specs.Tree.{Tree, leaf, node, size, cut, down}
 use Rattle.split.proofs.Trees.{Each}
 

@@ -15,17 +15,18 @@ use lib.Ieee.Back.{round-whole}
 use lib.Ieee.Order.{round-mono}
 use lib.Ieee.Positive.{positive, positive-of-value, own-value, above-of-le, values-of-le}
 use borrow.Author.Tests.{lt-ltb}
-use Rattle.laws.specs.Integers.{abs-pos}
-use Rattle.laws.specs.Finite.{Below, Big, NonNeg, below-mono, ofInt-below, add-below, sub-below, mul-below, div-below, add-nonneg, square-nonneg}
-use Rattle.laws.specs.Order.{AtLeastZero, at-least-zero}
-use Rattle.laws.specs.Whole.{Whole, ofInt-whole, zero-whole, sub-whole, whole-big}
-use Rattle.laws.specs.WholeTests.{ne-true-whole}
+use Rattle.laws.proofs.Integers.{abs-pos}
+use Rattle.laws.proofs.Finite.{Below, Big, below-mono, ofInt-below, add-below, sub-below, mul-below, div-below, add-nonneg, square-nonneg}
+use Rattle.laws.specs.Finite.{NonNeg}
+use Rattle.laws.proofs.Order.{AtLeastZero, at-least-zero}
+use Rattle.laws.proofs.Whole.{Whole, ofInt-whole, zero-whole, sub-whole, whole-big}
+use Rattle.laws.proofs.WholeTests.{ne-true-whole}
 use Rattle.laws.specs.If.{if_then_else_}
 use Rattle.point.specs.declared.PointI32.{PointI32}
 use Rattle.point.specs.declared.PointF64.{PointF64}
 use Rattle.split.specs.Distance.{zero64, one64, placeOf, squares, along, hasLength, nearest, foot, fromPlace, sqSegDist}
 use Rattle.split.specs.declared.distance.Segment.{Segment}
-use Rattle.split.specs.Small.{Small}
+use Rattle.split.specs.inside.Small.{Small}
 
 -- ---- what is 1 at least stays so: rounding keeps the order, and 1 is a value of the format
 

@@ -8,14 +8,16 @@ use mathlib.Core.Path.{_≡_, refl, sym}
 use lib.Dec.{T}
 use lib.IntN.{ℤ}
 use lib.Ieee.{Float, nan, inf, fin, binary64, up, down, add, mul, lt, fits}
-use Rattle.laws.specs.Finite.{NonNeg, infinity-nonneg, round-nonneg, add-nonneg}
-use Rattle.laws.specs.Least.{least, least-cases}
+use Rattle.laws.specs.Finite.{NonNeg}
+use Rattle.laws.proofs.Finite.{infinity-nonneg, round-nonneg, add-nonneg}
+use Rattle.laws.specs.Least.{least}
+use Rattle.laws.proofs.Least.{least-cases}
 use Rattle.point.specs.declared.PointI32.{PointI32}
 use Rattle.split.specs.Distance.{squares, sqSegDist}
 use Rattle.split.specs.Farthest.{distanceIn, farthest}
 use Rattle.split.proofs.Distances.{distance-fits}
 use Rattle.split.proofs.Folds.{far, farther-any}
-use Rattle.split.specs.Spans.{Distance}
+use Rattle.split.specs.inside.Spans.{Distance}
 use Rattle.split.specs.Tree.{spanTree}
 use Rattle.split.proofs.Trees.{Each, by-spans, reach}
 

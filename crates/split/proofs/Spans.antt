@@ -12,14 +12,16 @@ use lib.Ieee.{Float, nan, ofBits, lt, eq, fits}
 use lib.ListN.{length, set, replicate}
 use lib.Seq.{sets}
 use borrow.Author.Tests.{le-ltb, not-true}
-use Rattle.laws.specs.Joined.{both-true}
-use Rattle.laws.specs.Compare.{eq-is}
-use Rattle.laws.specs.Finite.{NonNeg, nonneg-number}
-use Rattle.laws.specs.Order.{at-least-zero, upper, lower, lt-is, lt-antisymmetric}
-use Rattle.laws.specs.Least.{least, least-cases}
+use Rattle.laws.proofs.Joined.{both-true}
+use Rattle.laws.proofs.Compare.{eq-is}
+use Rattle.laws.specs.Finite.{NonNeg}
+use Rattle.laws.proofs.Finite.{nonneg-number}
+use Rattle.laws.proofs.Order.{at-least-zero, upper, lower, lt-is, lt-antisymmetric}
+use Rattle.laws.specs.Least.{least}
+use Rattle.laws.proofs.Least.{least-cases}
 use Rattle.split.specs.declared.farthest.Far.{Far}
 use Rattle.split.specs.Distance.{zero64}
-use Rattle.split.specs.Spans.{Distance, Split}
+use Rattle.split.specs.inside.Spans.{Distance, Split}
 use Rattle.split.specs.Tree.{Tree, node, spanTree, size, cut, down}
 use Rattle.split.proofs.Cuts.{length-cut, length-down, cut-kept, cut-dropped, down-from-least}
 use Rattle.split.proofs.Stores.{spans-stored}

@@ -1,7 +1,6 @@
-pub mod Small
 pub mod Distance
 pub mod Farthest
-pub mod Spans
 pub mod Tree
 pub mod Marks
+pub mod inside
 pub mod Examples

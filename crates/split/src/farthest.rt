@@ -4,7 +4,7 @@ ghost use mathlib.Core.Path.{_≡_};
 ghost use Rattle.point.specs.Points.{count, pointAt};
 ghost use Rattle.split.specs.Distance.{fromSegment};
 ghost use Rattle.split.specs.Farthest.{lineOf, fartherOf, farthestIn};
-ghost use Rattle.split.specs.Small.{SmallAt};
+ghost use Rattle.split.specs.inside.Small.{SmallAt};
 use crate::distance::Segment;
 use crate::distance::between;
 use crate::distance::get_sq_seg_dist;

@@ -7,7 +7,7 @@ ghost use lib.Seq.{sets};
 ghost use Rattle.laws.specs.Least.{least};
 ghost use Rattle.split.specs.Distance.{zero64};
 ghost use Rattle.split.specs.Marks.{numberedOf};
-ghost use Rattle.split.specs.Spans.{Distance};
+ghost use Rattle.split.specs.inside.Spans.{Distance};
 ghost use Rattle.split.specs.Tree.{count, spanTree, down};
 use crate::span::split_point;
 

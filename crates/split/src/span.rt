@@ -1,7 +1,7 @@
 // Where a span is split.
 ghost use Prim.Native.Nat.{_+_, _<_};
 ghost use Rattle.point.specs.Points.{count};
-ghost use Rattle.split.specs.Spans.{Split};
+ghost use Rattle.split.specs.inside.Spans.{Split};
 use crate::farthest;
 use crate::farthest::Far;
 

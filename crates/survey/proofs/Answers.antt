@@ -12,7 +12,8 @@ use lib.ListN.{length, take, drop, length-append, length-take, length-drop}
 use lib.Seq.{take-all, take-at, take-add, take-append-le, take-append-add, length-take-le}
 use borrow.Author.Tests.{lt-ltb, le-ltb, ltb-true, ltb-false}
 use Rattle.laws.specs.If.{if_then_else_}
-use Rattle.laws.specs.Lists.{over, take-over-all}
+use Rattle.laws.specs.Lists.{over}
+use Rattle.laws.proofs.Lists.{take-over-all}
 use Rattle.pbm.specs.Calls.{Outcome, readOf}
 use Rattle.pbm.specs.declared.Picture.{Picture}
 use Rattle.pbm.specs.declared.Picture.the-variants as Picture

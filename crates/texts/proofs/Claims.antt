@@ -7,7 +7,7 @@ use lib.Dec.{leb}
 use lib.ListN.{length}
 use borrow.Author.Tests.{leb-true}
 use denote.Ref.{now}
-use Rattle.laws.specs.If.{if-cases}
+use Rattle.laws.proofs.If.{if-cases}
 use Rattle.texts.specs.Text.{naturalText, decimalText, hexText}
 use Rattle.texts.specs.Put.{Outcome, put}
 use Rattle.texts.proofs.write.put_byte.Reads as put_byte

@@ -7,7 +7,7 @@ use mir.Syntax.{w32, w64}
 use mir.Val.{SFits, ofZ, toZ}
 use mir.ValLaws.{toZ-ofZ}
 use lib.IntN.{ℤ, natAbs, _-ℤ_, _*ℤ_}
-use Rattle.laws.specs.Integers.{sfits-abs, abs-mul-le, sub-sfits}
+use Rattle.laws.proofs.Integers.{sfits-abs, abs-mul-le, sub-sfits}
 use Rattle.point.specs.declared.PointI32.{PointI32}
 use Rattle.util.specs.Area.{crossOf, signedArea}
 use Rattle.util.specs.Near.{Near}

@@ -7,8 +7,8 @@ use native.Mathlib.Omega.{arith}
 use mir.Syntax.{w32, w64}
 use mir.Val.{SFits}
 use lib.IntN.{ℤ, pos, negsuc, _-ℤ_, _*ℤ_}
-use Rattle.laws.specs.Integers.{sfits-abs}
-use Rattle.laws.specs.Ring.{P, N, abs-pn, one-zero-pn, neg-pn, sub-pn}
+use Rattle.laws.proofs.Integers.{sfits-abs}
+use Rattle.laws.proofs.Ring.{P, N, abs-pn, one-zero-pn, neg-pn, sub-pn}
 
 -- 2 ^ 62, and 2 ^ 62 - 2 ^ 31
 product-pn : (a b : ℤ) → SFits w32 a → SFits w32 b → (P (a *ℤ b) ≤ 4611686018427387904) × (N (a *ℤ b) ≤ 4611686016279904256)

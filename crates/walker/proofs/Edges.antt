@@ -9,7 +9,7 @@ use native.Mathlib.Omega.{arith}
 use lib.IntN.{ℤ, pos, negsuc, _-ℤ_}
 use lib.Signed.{leZ, ltZ}
 use borrow.Author.Tests.{leb-false}
-use Rattle.laws.specs.Ring.{P, N, add-pn, sub-pn, one-zero-pn}
+use Rattle.laws.proofs.Ring.{P, N, add-pn, sub-pn, one-zero-pn}
 use Rattle.point.specs.declared.PointI32.{PointI32}
 use Rattle.chart.specs.Pixels.{pixelAt, badChart}
 use Rattle.chart.specs.declared.Chart.{Chart}

@@ -5,8 +5,8 @@ use mathlib.Core.Path.{_≡_, refl, sym, ap, ap₂, _∙_}
 use native.Mathlib.Omega.{arith}
 use lib.IntN.{ℤ, pos, negsuc, _+ℤ_, +ℤ-idr, +ℤ-assoc}
 use lib.Signed.{leZ}
-use Rattle.laws.specs.Integers.{le-leZ, lt-leZ}
-use Rattle.laws.specs.Ring.{add-pn, pn-le, pn-lt, leZ-true-pn, leZ-false-pn}
+use Rattle.laws.proofs.Integers.{le-leZ, lt-leZ}
+use Rattle.laws.proofs.Ring.{add-pn, pn-le, pn-lt, leZ-true-pn, leZ-false-pn}
 use Rattle.point.specs.declared.PointI32.{PointI32}
 use Rattle.walker.specs.Walk.{Way, up, right, down, left, ahead, samePoint, sameWay}
 use Rattle.walker.proofs.Tests.{at-W, at-W2, at-W3, same, same-eq, fails}

@@ -9,9 +9,9 @@ use lib.IntN.{ℤ}
 use lib.Signed.{mag, leZ, ≤ℤ-refl}
 use borrow.Author.Needs.{sfits-of}
 use borrow.Author.Tests.{eq-eqb, ne-eqb}
-use Rattle.laws.specs.Joined.{both-true}
-use Rattle.laws.specs.Integers.{ofZ-inj, le-leZ, leZ-true}
-use Rattle.laws.specs.Ring.{≤ℤ-antisym}
+use Rattle.laws.proofs.Joined.{both-true}
+use Rattle.laws.proofs.Integers.{ofZ-inj, le-leZ, leZ-true}
+use Rattle.laws.proofs.Ring.{≤ℤ-antisym}
 use Rattle.point.specs.declared.PointI32.{PointI32}
 use Rattle.walker.specs.Walk.{samePoint}
 use Rattle.walker.specs.inside.Course.{point}

@@ -24,7 +24,7 @@ use Rattle.words.specs.declared.integer.Integer.{Integer}
 use Rattle.words.specs.declared.natural.Natural.{Natural}
 use Rattle.words.proofs.integer.read_integer.Reads as read_integer
 use Rattle.words.proofs.natural.read_natural.Reads as read_natural
-use Rattle.laws.specs.If.{if-cases}
+use Rattle.laws.proofs.If.{if-cases}
 use Rattle.words.specs.Into.{Outcome, isDash, readInto}
 use Rattle.words.specs.Pairs.{bytesOf, pairsOf}
 use Rattle.words.specs.declared.bytes.Read.{Read}

@@ -8,7 +8,7 @@ use native.Mathlib.Omega.{arith}
 use lib.Dec.{ltb}
 use lib.ListN.{length, take, drop, length-append, take-append-drop}
 use lib.Seq.{take-at}
-use Rattle.laws.specs.Joined.{both-false}
+use Rattle.laws.proofs.Joined.{both-false}
 use Rattle.chart.specs.Pixels.{rowBytes, side}
 use Rattle.chart.specs.declared.Chart.{Chart}
 use Rattle.chart.proofs.Sizes.{side-within}

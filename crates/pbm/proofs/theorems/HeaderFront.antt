@@ -8,7 +8,7 @@ use mathlib.Core.Path.{_≡_, refl, sym, ap, _∙_}
 use native.Mathlib.Omega.{arith}
 use lib.Dec.{leb, eqb}
 use borrow.Author.Tests.{leb-true, le-leb, lt-leb, ne-eqb}
-use Rattle.laws.specs.Joined.{both-true, both-false}
+use Rattle.laws.proofs.Joined.{both-true, both-false}
 use Rattle.pbm.specs.Header.{white, hash, digit, begins, commented, behind, Number, digitsFrom, numberIn, sizeIn, Header, sizesIn, headerIn}
 use Rattle.pbm.proofs.theorems.Front.{Front, at-once, longer, joined}
 

@@ -6,8 +6,9 @@ use mathlib.Core.Path.{_≡_, sym, ap, subst, _∙_}
 use native.Mathlib.Omega.{arith}
 use lib.ListN.{length}
 use borrow.Author.Tests.{le-ltb, ltb-false, not-false}
-use Rattle.laws.specs.Joined.{both-false}
-use Rattle.laws.specs.Lists.{over, length-over}
+use Rattle.laws.proofs.Joined.{both-false}
+use Rattle.laws.specs.Lists.{over}
+use Rattle.laws.proofs.Lists.{length-over}
 use Rattle.chart.specs.Pixels.{rowBytes, side, badChart}
 use Rattle.chart.specs.declared.Chart.{Chart}
 use Rattle.pbm.specs.Bytes.{chartBytes}

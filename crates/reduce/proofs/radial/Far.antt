@@ -9,7 +9,7 @@ use lib.Ieee.{Float, lt}
 use lib.ListN.{length, drop, getD, drop-of-length-le}
 use lib.Seq.{drop-cons}
 use lib.Signed.{≤ℤ-refl}
-use Rattle.laws.specs.Integers.{le-leZ}
+use Rattle.laws.proofs.Integers.{le-leZ}
 use Rattle.point.specs.declared.PointI32.{PointI32}
 use Rattle.reduce.specs.Distance.{sqDist}
 use Rattle.reduce.specs.Radial.{samePoint, radialEnd, radialFrom, lastOf, radial}

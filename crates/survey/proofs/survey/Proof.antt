@@ -6,7 +6,7 @@ use mathlib.Core.Path.{_≡_, refl, sym, ap, subst, _∙_}
 use native.Mathlib.Omega.{arith}
 use lib.ListN.{length}
 use borrow.Author.Needs.{needs}
-use Rattle.laws.specs.If.{if-cases}
+use Rattle.laws.proofs.If.{if-cases}
 use Rattle.chart.specs.Pixels.{one}
 use Rattle.survey.specs.Survey.{whole, Step, stepOf}
 use Rattle.survey.specs.inside.Reading.{Nearer}

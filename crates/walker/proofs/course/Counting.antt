@@ -8,7 +8,7 @@ use native.Mathlib.Omega.{arith}
 use mir.Syntax.{w32, w64}
 use mir.Val.{Fits, ofZ, toZ}
 use mir.ValLaws.{toZ-ofZ}
-use Rattle.laws.specs.Integers.{sfits-abs}
+use Rattle.laws.proofs.Integers.{sfits-abs}
 use Rattle.point.specs.declared.PointI32.{PointI32}
 use Rattle.chart.specs.Pixels.{badChart}
 use Rattle.chart.specs.declared.Chart.{Chart}

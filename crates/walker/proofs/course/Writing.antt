@@ -15,7 +15,7 @@ use lib.IntN.{ℤ}
 use lib.ListN.{length, take, drop, set, length-set, take-append-drop}
 use lib.Seq.{take-suc-set, drop-set-lt, drop-drop}
 use borrow.Author.Tests.{ltb-true, ltb-false}
-use Rattle.laws.specs.Integers.{sfits-abs}
+use Rattle.laws.proofs.Integers.{sfits-abs}
 use Rattle.point.specs.Points.{flat}
 use Rattle.point.specs.declared.PointI32.{PointI32}
 use Rattle.chart.specs.Pixels.{badChart}

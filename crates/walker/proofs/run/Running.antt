@@ -12,8 +12,8 @@ use mir.ValLaws.{toZ-ofZ}
 use lib.Dec.{ltb}
 use lib.IntN.{ℤ, natAbs, _+ℤ_}
 use borrow.Author.Tests.{eq-eqb, ne-eqb, ltb-true, ltb-false}
-use Rattle.laws.specs.Integers.{sfits-abs, abs-add}
-use Rattle.laws.specs.Ring.{abs-pn}
+use Rattle.laws.proofs.Integers.{sfits-abs, abs-add}
+use Rattle.laws.proofs.Ring.{abs-pn}
 use Rattle.chart.specs.Pixels.{badChart, aroundOf}
 use Rattle.chart.specs.declared.Chart.{Chart}
 use Rattle.chart.proofs.FourPixels.{around-lt}

@@ -8,7 +8,7 @@ use mir.ValLaws.{toZ-ofZ}
 use lib.IntN.{ℤ, pos, negsuc}
 use lib.Signed.{mag, leZ}
 use borrow.Author.Needs.{needs, sfits-of}
-use Rattle.laws.specs.Joined.{and-itself, and-second}
+use Rattle.laws.proofs.Joined.{and-itself, and-second}
 use Rattle.corners.specs.declared.Pair.{Pair}
 use Rattle.corners.specs.Calls.{fair}
 use Rattle.corners.proofs.flags.fair.Statement.{statement}

@@ -8,8 +8,8 @@ use lib.ListN.{length}
 use lib.Signed.{leZ}
 use borrow.Author.Needs.{needs}
 use borrow.Author.Tests.{leb-true, eq-eqb, ne-eqb, lt-ltb, le-ltb, not-true, not-false}
-use Rattle.laws.specs.Integers.{range-true}
-use Rattle.laws.specs.Joined.{both-true}
+use Rattle.laws.proofs.Integers.{range-true}
+use Rattle.laws.proofs.Joined.{both-true}
 use Rattle.laws.specs.Lists.{over}
 use Rattle.point.specs.Limits.{tooMany, badPoints}
 use Rattle.laws.specs.If.{if_then_else_}

@@ -2,7 +2,7 @@
 use mathlib.Core.Bool.{Bool, true, _&&_}
 use mathlib.Core.Path.{_≡_, _∙_}
 use borrow.Author.Needs.{needs}
-use Rattle.laws.specs.Joined.{and-itself, and-second}
+use Rattle.laws.proofs.Joined.{and-itself, and-second}
 use Rattle.corners.proofs.flags.is_open_end.Statement.{statement}
 use Rattle.corners.proofs.flags.is_open_end.Tie as tie
 

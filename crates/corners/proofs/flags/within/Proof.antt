@@ -7,7 +7,7 @@ use mir.ValLaws.{toZ-ofZ}
 use lib.IntN.{ℤ, pos}
 use lib.Signed.{leZ}
 use borrow.Author.Needs.{needs}
-use Rattle.laws.specs.Joined.{and-itself, and-second}
+use Rattle.laws.proofs.Joined.{and-itself, and-second}
 use Rattle.corners.proofs.flags.within.Statement.{statement}
 use Rattle.corners.proofs.flags.within.Tie as tie
 

@@ -9,7 +9,8 @@ use native.Mathlib.Omega.{arith}
 use lib.IntN.{ℤ}
 use lib.ListN.{length, set}
 use borrow.Author.Needs.{needs}
-use Rattle.laws.specs.Lists.{over, over-nil, over-push}
+use Rattle.laws.specs.Lists.{over}
+use Rattle.laws.proofs.Lists.{over-nil, over-push}
 use Rattle.corners.specs.declared.Pair.{Pair}
 use Rattle.corners.specs.Corners.{isCorner, flag, flagsFrom, seen, cornersOf}
 use Rattle.corners.proofs.OneMore.{length-flags, one-more}

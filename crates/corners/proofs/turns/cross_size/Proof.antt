@@ -6,7 +6,7 @@ use mir.Syntax.{w32, w64}
 use mir.Val.{ofZ, toZ}
 use lib.IntN.{ℤ, pos, natAbs, _*ℤ_}
 use borrow.Author.Needs.{needs}
-use Rattle.laws.specs.Integers.{abs-mul-le, abs-sub-le}
+use Rattle.laws.proofs.Integers.{abs-mul-le, abs-sub-le}
 use Rattle.util.specs.Area.{crossOf}
 use Rattle.util.proofs.ByBits.{turned}
 use Rattle.corners.proofs.Bits.{wide-by-bits, small-by-bits}

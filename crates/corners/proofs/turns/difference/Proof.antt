@@ -1,6 +1,6 @@
 -- `corners::difference` meets its contract: within the limits it fits. Assumes nothing.
 use borrow.Author.Needs.{needs}
-use Rattle.laws.specs.Integers.{signed-laws}
+use Rattle.laws.proofs.Integers.{signed-laws}
 use Rattle.corners.proofs.turns.difference.Statement.{statement}
 use Rattle.corners.proofs.turns.difference.Tie as tie
 

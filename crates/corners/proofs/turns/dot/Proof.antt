@@ -6,8 +6,8 @@ use mir.Syntax.{w32, w64}
 use mir.Val.{ofZ, toZ}
 use lib.IntN.{ℤ, pos, negℤ, natAbs, _+ℤ_, _-ℤ_, _*ℤ_, *ℤ-comm}
 use borrow.Author.Needs.{needs}
-use Rattle.laws.specs.Integers.{abs-mul-le, abs-add-le}
-use Rattle.laws.specs.Ring.{eq-pn, add-pn, sub-pn, neg-pn, *ℤ-negℤ}
+use Rattle.laws.proofs.Integers.{abs-mul-le, abs-add-le}
+use Rattle.laws.proofs.Ring.{eq-pn, add-pn, sub-pn, neg-pn, *ℤ-negℤ}
 use Rattle.util.specs.Area.{crossOf}
 use Rattle.util.proofs.ByBits.{turned, by-bits}
 use Rattle.corners.proofs.Bits.{wide-by-bits, small-by-bits}

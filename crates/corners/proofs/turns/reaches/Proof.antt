@@ -4,7 +4,7 @@ use mir.Facts.{toZ-ofZ}
 use mir.Syntax.{w64}
 use mir.Val.{SFits}
 use lib.IntN.{_-ℤ_}
-use Rattle.laws.specs.Integers.{sub-sfits}
+use Rattle.laws.proofs.Integers.{sub-sfits}
 use Rattle.corners.proofs.turns.reaches.Statement.{statement}
 use Rattle.corners.proofs.turns.reaches.Tie as tie
 

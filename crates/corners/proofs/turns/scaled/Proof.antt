@@ -4,7 +4,7 @@ use mir.Facts.{toZ-ofZ, sfits-widen}
 use mir.Syntax.{w64}
 use mir.Val.{SFits}
 use lib.IntN.{_*ℤ_}
-use Rattle.laws.specs.Integers.{abs-mul-le, mul-sfits}
+use Rattle.laws.proofs.Integers.{abs-mul-le, mul-sfits}
 use Rattle.corners.proofs.turns.scaled.Statement.{statement}
 use Rattle.corners.proofs.turns.scaled.Tie as tie
 

@@ -10,7 +10,7 @@ use lib.IntN.{ℤ, pos, negsuc, natAbs, _-ℤ_}
 use lib.Signed.{ltZ}
 use borrow.Author.Needs.{needs}
 use borrow.Author.Tests.{ltb-true}
-use Rattle.laws.specs.Integers.{neg-sfits}
+use Rattle.laws.proofs.Integers.{neg-sfits}
 use Rattle.corners.proofs.turns.size.Statement.{statement}
 use Rattle.corners.proofs.turns.size.Tie as tie
 

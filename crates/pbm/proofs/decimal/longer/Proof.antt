@@ -5,7 +5,7 @@ use mathlib.Core.Path.{_≡_}
 use lib.Dec.{leb}
 use borrow.Author.Needs.{needs}
 use borrow.Author.Tests.{leb-true}
-use Rattle.laws.specs.Joined.{both-true}
+use Rattle.laws.proofs.Joined.{both-true}
 use Rattle.pbm.specs.Header.{digit}
 use Rattle.pbm.proofs.decimal.longer.Statement.{statement}
 use Rattle.pbm.proofs.decimal.longer.Tie as tie

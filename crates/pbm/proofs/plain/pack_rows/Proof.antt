@@ -13,7 +13,8 @@ use lib.Dec.{ltb}
 use lib.ListN.{length, getD, drop, set, length-set}
 use borrow.Author.Needs.{needs}
 use borrow.Author.Tests.{lt-ltb, le-ltb}
-use Rattle.laws.specs.Lists.{over, over-nil}
+use Rattle.laws.specs.Lists.{over}
+use Rattle.laws.proofs.Lists.{over-nil}
 use Rattle.chart.specs.Pixels.{rowBytes, side}
 use Rattle.chart.specs.declared.Chart.{Chart}
 use Rattle.pbm.specs.Bytes.{packed, byteAt, listed, chartBytes}

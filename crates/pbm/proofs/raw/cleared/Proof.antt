@@ -5,7 +5,7 @@ use native.Mathlib.Omega.{arith}
 use lib.Bits.{bitAnd, and-high}
 use lib.Pow.{shr-mod}
 use borrow.Author.Needs.{needs}
-use Rattle.laws.specs.Bits.{high-mask}
+use Rattle.laws.proofs.Bits.{high-mask}
 use Rattle.pbm.proofs.raw.cleared.Statement.{statement}
 use Rattle.pbm.proofs.raw.cleared.Tie as tie
 

@@ -9,8 +9,9 @@ use lib.Dec.{ltb}
 use lib.ListN.{length, take, drop, length-append}
 use borrow.Author.Needs.{needs}
 use borrow.Author.Tests.{lt-ltb, le-ltb, ltb-false, not-false}
-use Rattle.laws.specs.Joined.{both-false}
-use Rattle.laws.specs.Lists.{over, take-over-all, drop-over, length-over}
+use Rattle.laws.proofs.Joined.{both-false}
+use Rattle.laws.specs.Lists.{over}
+use Rattle.laws.proofs.Lists.{take-over-all, drop-over, length-over}
 use Rattle.point.specs.Refusals.{refuse_when_or_}
 use Rattle.point.specs.declared.refusal.Answer.the-variants.{Done, Refused}
 use Rattle.point.specs.declared.refusal.Refusal.the-variants.{BadSize, NoRoom}

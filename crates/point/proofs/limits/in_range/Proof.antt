@@ -1,7 +1,7 @@
 -- `point::in_range` meets its contract: its two tests, joined. Assumes nothing.
 use mir.Facts.{toZ-ofZ}
 use borrow.Author.Needs.{needs}
-use Rattle.laws.specs.Joined.{and-itself, and-second}
+use Rattle.laws.proofs.Joined.{and-itself, and-second}
 use Rattle.point.proofs.limits.in_range.Statement.{statement}
 use Rattle.point.proofs.limits.in_range.Tie as tie
 

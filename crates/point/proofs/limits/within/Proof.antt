@@ -1,6 +1,6 @@
 -- `point::within` meets its contract: its two tests, joined. Assumes nothing.
 use borrow.Author.Needs.{needs}
-use Rattle.laws.specs.Joined.{and-itself, and-second}
+use Rattle.laws.proofs.Joined.{and-itself, and-second}
 use Rattle.point.proofs.limits.within.Statement.{statement}
 use Rattle.point.proofs.limits.within.Tie as tie
 

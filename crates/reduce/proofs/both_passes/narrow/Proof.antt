@@ -12,7 +12,8 @@ use lib.IntN.{ℤ}
 use lib.ListN.{length, take}
 use borrow.Author.Needs.{needs}
 use Rattle.laws.specs.If.{if_then_else_}
-use Rattle.laws.specs.Lists.{over, length-over, take-over-all}
+use Rattle.laws.specs.Lists.{over}
+use Rattle.laws.proofs.Lists.{length-over, take-over-all}
 use Rattle.point.specs.Points.{flat, points, count}
 use Rattle.point.specs.declared.refusal.Answer.{Answer}
 use Rattle.point.specs.declared.refusal.Answer.the-variants.{Done}

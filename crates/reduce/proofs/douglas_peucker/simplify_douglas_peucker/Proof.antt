@@ -10,7 +10,8 @@ use lib.IntN.{ℤ}
 use lib.ListN.{length}
 use borrow.Author.Needs.{needs}
 use borrow.Author.Tests.{eq-eqb, ne-eqb, lt-ltb, le-ltb}
-use Rattle.laws.specs.Lists.{over, length-over}
+use Rattle.laws.specs.Lists.{over}
+use Rattle.laws.proofs.Lists.{length-over}
 use Rattle.point.specs.Limits.{tooMany, badPoints, badSqTolerance, placesFor}
 use Rattle.point.specs.Points.{points, count}
 use Rattle.point.specs.declared.refusal.Answer.{Answer}

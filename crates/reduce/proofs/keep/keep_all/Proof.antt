@@ -13,7 +13,8 @@ use lib.Seq.{take-all, take-suc, length-take-le}
 use lib.Signed.{mag}
 use borrow.Author.Needs.{needs, sfits-of}
 use borrow.Author.Tests.{lt-ltb, le-ltb}
-use Rattle.laws.specs.Lists.{over, over-push, over-nil}
+use Rattle.laws.specs.Lists.{over}
+use Rattle.laws.proofs.Lists.{over-push, over-nil}
 use Rattle.point.specs.declared.refusal.Answer.the-variants.{Done, Refused}
 use Rattle.point.specs.declared.refusal.Refusal.the-variants.{NoRoom}
 use Rattle.reduce.specs.Keep.{keptAllOf}

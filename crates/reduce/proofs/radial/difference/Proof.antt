@@ -4,7 +4,7 @@ use mir.Facts.{toZ-ofZ}
 use mir.Syntax.{w32}
 use mir.Val.{SFits}
 use lib.IntN.{_-ℤ_}
-use Rattle.laws.specs.Integers.{abs-sub-le, sub-sfits}
+use Rattle.laws.proofs.Integers.{abs-sub-le, sub-sfits}
 use Rattle.reduce.proofs.radial.difference.Statement.{statement}
 use Rattle.reduce.proofs.radial.difference.Tie as tie
 

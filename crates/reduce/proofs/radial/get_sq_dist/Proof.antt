@@ -8,7 +8,7 @@ use mir.ValLaws.{toZ-ofZ}
 use lib.IntN.{ℤ, natAbs, _+ℤ_, _-ℤ_, _*ℤ_}
 use lib.Ieee.{Float, binary64, ofInt}
 use borrow.Author.Needs.{needs}
-use Rattle.laws.specs.Integers.{sfits-abs}
+use Rattle.laws.proofs.Integers.{sfits-abs}
 use Rattle.point.specs.declared.PointI32.{PointI32}
 use Rattle.reduce.specs.Distance.{sqDist}
 use Rattle.reduce.proofs.radial.get_sq_dist.Statement.{statement}

@@ -10,8 +10,8 @@ use lib.IntN.{ℤ, pos, negsuc}
 use lib.Signed.{mag, leZ, ≤ℤ-refl}
 use borrow.Author.Needs.{needs, sfits-of}
 use borrow.Author.Tests.{leb-true, eqb-true, eqb-false, ne-eqb}
-use Rattle.laws.specs.Integers.{ofZ-inj, le-leZ}
-use Rattle.laws.specs.Joined.{both-true}
+use Rattle.laws.proofs.Integers.{ofZ-inj, le-leZ}
+use Rattle.laws.proofs.Joined.{both-true}
 use Rattle.point.specs.declared.PointI32.{PointI32}
 use Rattle.reduce.specs.Radial.{samePoint}
 use Rattle.reduce.proofs.radial.same_point.Statement.{statement}

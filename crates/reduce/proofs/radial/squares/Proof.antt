@@ -5,7 +5,7 @@ use mir.Syntax.{w32}
 use mir.Val.{SFits}
 use lib.IntN.{ℤ, natAbs, _+ℤ_, _*ℤ_}
 use borrow.Author.Needs.{needs}
-use Rattle.laws.specs.Integers.{abs-mul-le, mul-sfits, add-sfits}
+use Rattle.laws.proofs.Integers.{abs-mul-le, mul-sfits, add-sfits}
 use Rattle.reduce.proofs.radial.squares.Statement.{statement}
 use Rattle.reduce.proofs.radial.squares.Tie as tie
 

@@ -8,7 +8,8 @@ use lib.IntN.{ℤ, pos}
 use lib.ListN.{length, take, set}
 use lib.Seq.{length-take-le, take-all, take-suc}
 use borrow.Author.Needs.{needs}
-use Rattle.laws.specs.Lists.{over, over-nil, over-push}
+use Rattle.laws.specs.Lists.{over}
+use Rattle.laws.proofs.Lists.{over-nil, over-push}
 use Rattle.requests.specs.Frame.{wordAt, signed, valuesOf}
 use Rattle.requests.proofs.Values.{length-values, value-at}
 use Rattle.requests.proofs.words.decode.Statement.{statement}

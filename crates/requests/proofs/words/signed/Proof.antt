@@ -10,7 +10,7 @@ use mir.Val.{SFits, toZ, ofZ}
 use mir.Facts.{toZ-pos, toZ-ofZ}
 use borrow.Author.Needs.{needs}
 use borrow.Author.Tests.{lt-ltb, le-ltb}
-use Rattle.laws.specs.Integers.{sub-sfits}
+use Rattle.laws.proofs.Integers.{sub-sfits}
 use Rattle.requests.specs.Frame.{signed}
 use Rattle.requests.proofs.words.signed.Statement.{statement}
 use Rattle.requests.proofs.words.signed.Tie as tie

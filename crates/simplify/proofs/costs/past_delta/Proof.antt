@@ -9,8 +9,8 @@ use native.Mathlib.Omega.{arith}
 use lib.IntN.{ℤ, pos}
 use lib.Ieee.{Float, binary64, ofInt, lt}
 use borrow.Author.Needs.{needs}
-use Rattle.laws.specs.Finite.{ofInt-nonneg}
-use Rattle.laws.specs.Order.{at-least-zero}
+use Rattle.laws.proofs.Finite.{ofInt-nonneg}
+use Rattle.laws.proofs.Order.{at-least-zero}
 use Rattle.point.specs.Points.{points, count, pointAt}
 use Rattle.point.specs.declared.PointI32.{PointI32}
 use Rattle.point.proofs.Flat.{points-at}

@@ -1,6 +1,6 @@
 -- `staircase::difference` meets its contract: within the limits the difference fits. Assumes nothing.
 use borrow.Author.Needs.{needs}
-use Rattle.laws.specs.Integers.{signed-laws}
+use Rattle.laws.proofs.Integers.{signed-laws}
 use Rattle.simplify.proofs.steps.difference.Statement.{statement}
 use Rattle.simplify.proofs.steps.difference.Tie as tie
 

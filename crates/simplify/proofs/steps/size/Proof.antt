@@ -11,7 +11,7 @@ use lib.IntN.{ℤ, pos, negsuc, natAbs, _-ℤ_}
 use lib.Signed.{ltZ, nonNeg}
 use borrow.Author.Needs.{needs}
 use borrow.Author.Tests.{ltb-true}
-use Rattle.laws.specs.Integers.{signed-laws, neg-sfits}
+use Rattle.laws.proofs.Integers.{signed-laws, neg-sfits}
 use Rattle.util.proofs.ByBits.{by-bits}
 use Rattle.simplify.proofs.steps.size.Statement.{statement}
 use Rattle.simplify.proofs.steps.size.Tie as tie

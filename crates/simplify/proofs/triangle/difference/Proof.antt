@@ -1,6 +1,6 @@
 -- `penalties::difference` meets its contract: within the limits the difference fits. Assumes nothing.
 use borrow.Author.Needs.{needs}
-use Rattle.laws.specs.Integers.{signed-laws}
+use Rattle.laws.proofs.Integers.{signed-laws}
 use Rattle.simplify.proofs.triangle.difference.Statement.{statement}
 use Rattle.simplify.proofs.triangle.difference.Tie as tie
 

@@ -4,7 +4,7 @@ use mir.Syntax.{w32}
 use mir.Val.{SFits}
 use lib.IntN.{_*ℤ_}
 use borrow.Author.Needs.{needs}
-use Rattle.laws.specs.Integers.{signed-laws, mul-sfits}
+use Rattle.laws.proofs.Integers.{signed-laws, mul-sfits}
 use Rattle.simplify.proofs.triangle.sq.Statement.{statement}
 use Rattle.simplify.proofs.triangle.sq.Tie as tie
 

@@ -11,7 +11,7 @@ use lib.Ieee.{Float}
 use lib.ListN.{length}
 use borrow.Author.Needs.{needs}
 use borrow.Author.Tests.{ltb-false}
-use Rattle.laws.specs.Joined.{and-second}
+use Rattle.laws.proofs.Joined.{and-second}
 use Rattle.smooth.specs.Places.{count}
 use Rattle.smooth.specs.Judged.{roomFor}
 use Rattle.smooth.proofs.SoFar.{SoFar, begun, few, turned, ended, last-fits, closed-again}

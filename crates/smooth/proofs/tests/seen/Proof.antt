@@ -6,7 +6,7 @@ use native.Mathlib.Omega.{arith}
 use lib.Dec.{ltb}
 use borrow.Author.Needs.{needs}
 use borrow.Author.Tests.{ltb-false}
-use Rattle.laws.specs.Joined.{and-second}
+use Rattle.laws.proofs.Joined.{and-second}
 use Rattle.laws.specs.If.{if_then_else_}
 use Rattle.smooth.proofs.tests.seen.Statement.{statement}
 use Rattle.smooth.proofs.tests.seen.Tie as tie

@@ -1,6 +1,6 @@
 -- `round_refusals::too_few` meets its contract: its two tests, joined. Assumes nothing.
 use borrow.Author.Needs.{needs}
-use Rattle.laws.specs.Joined.{and-itself, and-second}
+use Rattle.laws.proofs.Joined.{and-itself, and-second}
 use Rattle.smooth.proofs.tests.too_few.Statement.{statement}
 use Rattle.smooth.proofs.tests.too_few.Tie as tie
 

@@ -1,6 +1,6 @@
 -- `round_refusals::within` meets its contract: its two tests, joined. Assumes nothing.
 use borrow.Author.Needs.{needs}
-use Rattle.laws.specs.Joined.{and-itself, and-second}
+use Rattle.laws.proofs.Joined.{and-itself, and-second}
 use Rattle.smooth.proofs.tests.within.Statement.{statement}
 use Rattle.smooth.proofs.tests.within.Tie as tie
 

@@ -7,7 +7,7 @@ use mir.Syntax.{w32, w64}
 use mir.Val.{SFits, Fits}
 use lib.IntN.{pos, natAbs, _+ℤ_}
 use borrow.Author.Needs.{needs}
-use Rattle.laws.specs.Integers.{abs-add-le, sfits-abs}
+use Rattle.laws.proofs.Integers.{abs-add-le, sfits-abs}
 use Rattle.spiral.specs.Spiral.{sound, ahead}
 use Rattle.spiral.specs.declared.SpiralWalker.{SpiralWalker}
 use Rattle.spiral.proofs.Laws.{by-bits, same, x-abs, y-abs, gx-abs, gy-abs, step-le, x-same, y-same, dir-same, gx-same, gy-same, sq-same, cc-same, cc-next-abs, cc-next-same}

@@ -7,7 +7,7 @@ use native.Mathlib.Omega.{arith}
 use lib.IntN.{ℤ, pos, natAbs, _+ℤ_}
 use lib.Signed.{mag}
 use borrow.Author.Needs.{needs}
-use Rattle.laws.specs.Integers.{abs-add-le}
+use Rattle.laws.proofs.Integers.{abs-add-le}
 use Rattle.spiral.specs.Spiral.{between, goingX, goingY, longer, corner}
 use Rattle.spiral.specs.declared.SpiralWalker.{SpiralWalker}
 use Rattle.spiral.proofs.Laws.{by-bits, same, told, from-one, four}

@@ -10,7 +10,7 @@ use mir.Facts.{sfits-lit}
 use lib.IntN.{ℤ, pos, _+ℤ_}
 use lib.Signed.{quotZ, remZ}
 use borrow.Author.Needs.{needs}
-use Rattle.laws.specs.Integers.{add-sfits}
+use Rattle.laws.proofs.Integers.{add-sfits}
 use Rattle.spiral.specs.Spiral.{between, longer}
 use Rattle.spiral.proofs.Laws.{by-bits, four, from-one}
 use Rattle.spiral.proofs.places.longer.Statement.{statement}

@@ -1,6 +1,6 @@
 -- `spiral::turning::between` meets its contract: its two tests, joined. Assumes nothing.
 use mir.Facts.{toZ-ofZ}
-use Rattle.laws.specs.Joined.{and-itself, and-second}
+use Rattle.laws.proofs.Joined.{and-itself, and-second}
 use Rattle.spiral.proofs.turning.between.Statement.{statement}
 use Rattle.spiral.proofs.turning.between.Tie as tie
 

@@ -10,7 +10,7 @@ use mir.ValLaws.{toZ-ofZ}
 use lib.IntN.{pos, _-ℤ_}
 use borrow.Author.Needs.{needs}
 use borrow.Author.Tests.{lt-ltb, le-ltb}
-use Rattle.laws.specs.Integers.{sub-sfits}
+use Rattle.laws.proofs.Integers.{sub-sfits}
 use Rattle.point.specs.declared.refusal.Refusal.the-variants.{BadSize}
 use Rattle.spiral.specs.Spiral.{freshSpiral}
 use Rattle.spiral.specs.declared.Fresh.the-variants.{Refused, Ready}

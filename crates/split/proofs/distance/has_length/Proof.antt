@@ -1,6 +1,6 @@
 -- `spans::has_length` meets its contract. Assumes nothing.
 use borrow.Author.Needs.{needs}
-use Rattle.laws.specs.Joined.{or-itself, or-second}
+use Rattle.laws.proofs.Joined.{or-itself, or-second}
 use Rattle.split.proofs.distance.has_length.Statement.{statement}
 use Rattle.split.proofs.distance.has_length.Tie as tie
 

@@ -19,7 +19,7 @@ use Rattle.split.specs.declared.distance.Segment.{Segment}
 use Rattle.split.specs.declared.farthest.Far.{Far}
 use Rattle.split.specs.Distance.{one64, fromSegment, sqSegDist}
 use Rattle.split.specs.Farthest.{distanceIn, lineOf, fartherOf, farther, farthestIn}
-use Rattle.split.specs.Small.{SmallAt}
+use Rattle.split.specs.inside.Small.{SmallAt}
 use Rattle.split.proofs.Distances.{distance-nonneg, above-minus-one}
 use Rattle.split.proofs.Folds.{far, from-below, found-in, past-the-end, none-inside}
 use Rattle.split.proofs.farthest.farthest.Statement.{statement}

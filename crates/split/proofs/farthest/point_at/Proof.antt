@@ -11,7 +11,7 @@ use lib.ListN.{getD}
 use lib.Signed.{mag}
 use borrow.Author.Needs.{needs, sfits-of}
 use Rattle.point.specs.Points.{pointAt}
-use Rattle.split.specs.Small.{SmallAt}
+use Rattle.split.specs.inside.Small.{SmallAt}
 use Rattle.split.proofs.farthest.point_at.Statement.{statement}
 use Rattle.split.proofs.farthest.point_at.Tie as tie
 

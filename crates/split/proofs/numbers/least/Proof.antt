@@ -3,7 +3,8 @@ use mathlib.Core.Bool.{true, false}
 use mathlib.Core.Path.{_≡_, sym}
 use lib.Ieee.{Float, lt}
 use borrow.Author.Needs.{needs}
-use Rattle.laws.specs.Least.{least, least-first, least-second}
+use Rattle.laws.specs.Least.{least}
+use Rattle.laws.proofs.Least.{least-first, least-second}
 use Rattle.split.proofs.numbers.least.Statement.{statement}
 use Rattle.split.proofs.numbers.least.Tie as tie
 

@@ -9,10 +9,10 @@ use lib.Ieee.{Float, inf, binary64, ofBits, div, fits}
 use lib.ListN.{length, set, length-set}
 use lib.Seq.{sets}
 use borrow.Author.Needs.{needs}
-use Rattle.laws.specs.Finite.{infinity-nonneg}
+use Rattle.laws.proofs.Finite.{infinity-nonneg}
 use Rattle.split.specs.Distance.{zero64, one64}
 use Rattle.split.specs.Marks.{numberedOf}
-use Rattle.split.specs.Spans.{Distance}
+use Rattle.split.specs.inside.Spans.{Distance}
 use Rattle.split.specs.Tree.{spanTree, down, numbersOf}
 use Rattle.split.proofs.Buffers.{laid-none, laid-no-room, all-laid}
 use Rattle.split.proofs.Cuts.{length-down}

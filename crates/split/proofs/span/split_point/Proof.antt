@@ -8,7 +8,7 @@ use lib.ListN.{length}
 use Rattle.split.specs.declared.farthest.Far.{Far}
 use Rattle.split.specs.Farthest.{farthest, farthestIn}
 use Rattle.split.proofs.Folds.{found-in}
-use Rattle.split.specs.Spans.{Split}
+use Rattle.split.specs.inside.Spans.{Split}
 use Rattle.split.proofs.Trees.{split-inside}
 use Rattle.split.proofs.span.split_point.Statement.{statement}
 use Rattle.split.proofs.span.split_point.Tie as tie

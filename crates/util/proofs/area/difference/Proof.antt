@@ -1,6 +1,6 @@
 -- `util::difference` meets its contract: within the limits the difference fits. Assumes nothing.
 use borrow.Author.Needs.{needs}
-use Rattle.laws.specs.Integers.{signed-laws}
+use Rattle.laws.proofs.Integers.{signed-laws}
 use Rattle.util.proofs.area.difference.Statement.{statement}
 use Rattle.util.proofs.area.difference.Tie as tie
 

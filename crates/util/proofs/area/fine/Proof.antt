@@ -7,7 +7,7 @@ use mir.Val.{ofZ, toZ}
 use mir.ValLaws.{toZ-ofZ}
 use lib.Signed.{mag}
 use borrow.Author.Needs.{needs, sfits-of}
-use Rattle.laws.specs.Joined.{and-itself, and-second}
+use Rattle.laws.proofs.Joined.{and-itself, and-second}
 use Rattle.point.specs.Limits.{inRange}
 use Rattle.point.specs.declared.PointI32.{PointI32}
 use Rattle.util.specs.Area.{pointFine}

@@ -8,7 +8,7 @@ use mir.ValLaws.{toZ-ofZ}
 use lib.IntN.{ℤ, natAbs}
 use borrow.Author.Needs.{needs}
 use borrow.Author.Tests.{not-true, not-false}
-use Rattle.laws.specs.Joined.{both-true}
+use Rattle.laws.proofs.Joined.{both-true}
 use Rattle.point.specs.Limits.{inRange}
 use Rattle.point.specs.declared.PointI32.{PointI32}
 use Rattle.point.specs.declared.refusal.Refusal.the-variants.{BadPoint}

@@ -1,6 +1,6 @@
 -- `crossing::both_negligible` meets its contract: its two tests, joined. Assumes nothing.
 use borrow.Author.Needs.{needs}
-use Rattle.laws.specs.Joined.{joined}
+use Rattle.laws.proofs.Joined.{joined}
 use Rattle.util.proofs.crossing.both_negligible.Statement.{statement}
 use Rattle.util.proofs.crossing.both_negligible.Tie as tie
 

@@ -3,7 +3,7 @@ use mathlib.Core.Bool.{true, false}
 use mathlib.Core.Path.{_≡_}
 use lib.Ieee.{Float, neg, lt}
 use borrow.Author.Needs.{needs}
-use Rattle.laws.specs.Joined.{and-itself, and-second}
+use Rattle.laws.proofs.Joined.{and-itself, and-second}
 use Rattle.util.specs.Lines.{tiny, negligible}
 use Rattle.util.proofs.crossing.negligible.Statement.{statement}
 use Rattle.util.proofs.crossing.negligible.Tie as tie

@@ -1,6 +1,6 @@
 -- `measures::fine` meets its contract: its two tests, joined. Assumes nothing.
 use borrow.Author.Needs.{needs}
-use Rattle.laws.specs.Joined.{joined}
+use Rattle.laws.proofs.Joined.{joined}
 use Rattle.util.proofs.lengths.fine.Statement.{statement}
 use Rattle.util.proofs.lengths.fine.Tie as tie
 

@@ -8,7 +8,7 @@ use mir.ValLaws.{toZ-ofZ}
 use lib.IntN.{ℤ, natAbs, _+ℤ_, _*ℤ_}
 use lib.Ieee.{Float, binary64, ofInt}
 use borrow.Author.Needs.{needs}
-use Rattle.laws.specs.Integers.{sfits-abs}
+use Rattle.laws.proofs.Integers.{sfits-abs}
 use Rattle.sqrt.specs.Root.{rootOf}
 use Rattle.util.specs.Lengths.{lengthOfI32}
 use Rattle.util.proofs.lengths.length_i32.Statement.{statement}

@@ -1,6 +1,6 @@
 -- `measures::square` meets its contract: within the limits it fits. Assumes nothing.
 use borrow.Author.Needs.{needs}
-use Rattle.laws.specs.Integers.{signed-laws}
+use Rattle.laws.proofs.Integers.{signed-laws}
 use Rattle.util.proofs.lengths.square.Statement.{statement}
 use Rattle.util.proofs.lengths.square.Tie as tie
 

@@ -1,6 +1,6 @@
 -- `measures::sum` meets its contract: within the limits it fits. Assumes nothing.
 use borrow.Author.Needs.{needs}
-use Rattle.laws.specs.Integers.{signed-laws}
+use Rattle.laws.proofs.Integers.{signed-laws}
 use Rattle.util.proofs.lengths.sum.Statement.{statement}
 use Rattle.util.proofs.lengths.sum.Tie as tie
 

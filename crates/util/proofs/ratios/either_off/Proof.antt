@@ -1,6 +1,6 @@
 -- `ratios::either_off` meets its contract: its two tests, joined. Assumes nothing.
 use borrow.Author.Needs.{needs}
-use Rattle.laws.specs.Joined.{joined}
+use Rattle.laws.proofs.Joined.{joined}
 use Rattle.util.proofs.ratios.either_off.Statement.{statement}
 use Rattle.util.proofs.ratios.either_off.Tie as tie
 

@@ -3,7 +3,7 @@ use mathlib.Core.Bool.{true, false}
 use mathlib.Core.Path.{_≡_}
 use lib.Ieee.{Float, binary64, ofInt, ofBits, add, sub, lt}
 use borrow.Author.Needs.{needs}
-use Rattle.laws.specs.Joined.{or-itself, or-second}
+use Rattle.laws.proofs.Joined.{or-itself, or-second}
 use Rattle.util.specs.Ratios.{margin, off}
 use Rattle.util.proofs.ratios.off.Statement.{statement}
 use Rattle.util.proofs.ratios.off.Tie as tie

@@ -13,11 +13,11 @@ use lib.Ieee.Fits.{down-pos}
 use mir.Syntax.{Width}
 use mir.Val.{SFits, ofZ}
 use borrow.Author.Tests.{ltb-true, ltb-false, lt-ltb, le-ltb, eq-eqb, ne-eqb, not-true, not-false}
-use Rattle.laws.specs.Joined.{both-true}
-use Rattle.laws.specs.Compare.{eq-is, le-is}
-use Rattle.laws.specs.Integers.{ofZ-inj, leZ-not, ltZ-false, le-ltZ}
-use Rattle.laws.specs.Ring.{≤ℤ-antisym}
-use Rattle.laws.specs.Whole.{Whole, signed, whole-pairs, whole-number}
+use Rattle.laws.proofs.Joined.{both-true}
+use Rattle.laws.proofs.Compare.{eq-is, le-is}
+use Rattle.laws.proofs.Integers.{ofZ-inj, leZ-not, ltZ-false, le-ltZ}
+use Rattle.laws.proofs.Ring.{≤ℤ-antisym}
+use Rattle.laws.proofs.Whole.{Whole, signed, whole-pairs, whole-number}
 
 -- ---- less than
 

@@ -13,7 +13,7 @@ use mir.Syntax.{Width}
 use mir.Val.{SFits, hbits, ofZ, toZ}
 use mir.ValLaws.{toZ-ofZ}
 use borrow.Author.Tests.{leb-true, leb-false, le-leb, lt-ltb, le-ltb, not-true, not-false}
-use Rattle.laws.specs.Joined.{both-true}
+use Rattle.laws.proofs.Joined.{both-true}
 
 -- ---- the size of a result
 

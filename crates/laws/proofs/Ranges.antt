@@ -11,11 +11,11 @@ use lib.IntN.{ℤ, pos, natAbs, pos-ne-negsuc}
 use lib.Ieee.{Float, nan, inf, fin, binary64, up, down, ofInt, isNan, below, lt, le}
 use lib.Ieee.Fits.{and-l, and-r, up-pos, down-pos}
 use borrow.Author.Tests.{ltb-false, not-true}
-use Rattle.laws.specs.Joined.{both-true}
-use Rattle.laws.specs.Compare.{le-is, le-nan}
-use Rattle.laws.specs.Finite.{Below}
-use Rattle.laws.specs.Order.{AtLeastZero}
-use Rattle.laws.specs.Whole.{Whole, ofInt-whole, signed, abs-signed, whole-cases}
+use Rattle.laws.proofs.Joined.{both-true}
+use Rattle.laws.proofs.Compare.{le-is, le-nan}
+use Rattle.laws.proofs.Finite.{Below}
+use Rattle.laws.proofs.Order.{AtLeastZero}
+use Rattle.laws.proofs.Whole.{Whole, ofInt-whole, signed, abs-signed, whole-cases}
 
 -- ---- of two finite floats: what is at most another is not above it, and so the sizes compare
 

@@ -9,7 +9,7 @@ use native.Mathlib.Omega.{arith}
 use lib.Dec.{T, leb→le, le→leb, ltb→lt, lt→ltb}
 use lib.IntN.{ℤ, pos, negsuc, negℤ, natAbs, _+ℤ_, _-ℤ_, _*ℤ_, *ℤ-comm}
 use lib.Signed.{leZ, ltZ, _≤ℤ_, _<ℤ_}
-use Rattle.laws.specs.Integers.{subℕ-cases, leZ-true, leZ-false, ltZ-true, ltZ-false}
+use Rattle.laws.proofs.Integers.{subℕ-cases, leZ-true, leZ-false, ltZ-true, ltZ-false}
 
 -- ---- z is P z - N z, and one of the two is 0
 

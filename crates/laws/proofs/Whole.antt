@@ -13,9 +13,10 @@ use lib.Ieee.Fits.{down-pos, ofInt-fits}
 use lib.Ieee.Exact.{HasValue}
 use lib.Ieee.Back.{round-whole, whole-unique}
 use lib.Ieee.Scale.{round-same}
-use Rattle.laws.specs.Integers.{abs-neg, abs-add-le, abs-mul-le}
-use Rattle.laws.specs.Ring.{add-pn, neg-pn, eq-pn, negℤ-*ℤ, *ℤ-negℤ}
-use Rattle.laws.specs.Finite.{Below, Big, NonNeg, ofInt-nonneg}
+use Rattle.laws.proofs.Integers.{abs-neg, abs-add-le, abs-mul-le}
+use Rattle.laws.proofs.Ring.{add-pn, neg-pn, eq-pn, negℤ-*ℤ, *ℤ-negℤ}
+use Rattle.laws.proofs.Finite.{Below, Big, ofInt-nonneg}
+use Rattle.laws.specs.Finite.{NonNeg}
 
 -- ---- definitions
 

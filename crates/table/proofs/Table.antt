@@ -7,7 +7,7 @@ use mathlib.Core.Path.{_≡_, refl}
 use lib.IntN.{ℤ, pos, natAbs}
 use lib.Ieee.{Float, inf, binary64, ofInt, ofBits, add, sub, mul, div, lt, ne, eq, le}
 use lib.ListN.{replicate}
-use Rattle.laws.specs.Integers.{in-range}
+use Rattle.laws.proofs.Integers.{in-range}
 use Rattle.point.specs.Limits.{badList, inRange}
 use Rattle.point.specs.Points.{flat}
 use Rattle.point.specs.declared.refusal.Answer.the-variants as Answer

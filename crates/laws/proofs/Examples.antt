@@ -7,10 +7,11 @@ use Prim.Native.Nat.{_≤_}
 use lib.Dec.{lit≤}
 use lib.IntN.{ℤ, pos, natAbs, _-ℤ_}
 use lib.Ieee.{Float, binary64, ofInt, ofBits, add, sub, mul, div, ne}
-use Rattle.laws.specs.Integers.{squares-pos}
-use Rattle.laws.specs.Finite.{Below, Big, NonNeg, below-mono, ofInt-below, add-below, sub-below, mul-below, div-below, add-nonneg, square-nonneg}
-use Rattle.laws.specs.Whole.{Whole, ofInt-whole, zero-whole, sub-whole, mul-whole, add-whole, whole-big}
-use Rattle.laws.specs.WholeTests.{ne-true-whole}
+use Rattle.laws.proofs.Integers.{squares-pos}
+use Rattle.laws.proofs.Finite.{Below, Big, below-mono, ofInt-below, add-below, sub-below, mul-below, div-below, add-nonneg, square-nonneg}
+use Rattle.laws.specs.Finite.{NonNeg}
+use Rattle.laws.proofs.Whole.{Whole, ofInt-whole, zero-whole, sub-whole, mul-whole, add-whole, whole-big}
+use Rattle.laws.proofs.WholeTests.{ne-true-whole}
 
 -- 0.5
 half-below : Below 0 (ofBits binary64 0x3fe0000000000000)
