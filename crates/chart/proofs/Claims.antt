@@ -20,52 +20,51 @@ use Rattle.chart.specs.Start.{firstStart}
 use Rattle.chart.proofs.Rows.{rows-le}
 use Rattle.chart.proofs.counting.area.Reads.{Post as Area}
 use Rattle.chart.proofs.begin.first_start.Reads.{Post as First-start}
+use Rattle.laws.proofs.Determined.{Determined, same}
+use mathlib.Core.Bool.{Bool}
+use Rattle.chart.specs.declared.Cells.{Cells}
+use Rattle.chart.specs.declared.Start.{Start}
+use lib.IntN.{ℤ}
 
 -- Each contract leaves no choice: of equal arguments it allows one result. `Post` is the contract itself, as Rattle reads it off the source.
 
-pub cells-number-determined : (κs : _) (a a′ : _) (r r′ : _) (s s′ : _) → Cells-number κs a r s → Cells-number κs a′ r′ s′ → a .0 ≡ a′ .0 → r ≡ r′
-cells-number-determined κs a a′ r r′ s s′ p q e = p ∙ ap cellsNumber e ∙ sym q
+pub cells-number-determined : Determined Cells ℕ Cells-number (λ _ a. a .0) (λ _ r s. r)
+cells-number-determined = same cellsNumber (λ _ a r s p. p)
 
-pub cells-count-determined : (κs : _) (a a′ : _) (r r′ : _) (s s′ : _) → Cells-count κs a r s → Cells-count κs a′ r′ s′ → a .0 ≡ a′ .0 → r ≡ r′
-cells-count-determined κs a a′ r r′ s s′ p q e = p ∙ ap cellsCount e ∙ sym q
+pub cells-count-determined : Determined Cells ℕ Cells-count (λ _ a. a .0) (λ _ r s. r)
+cells-count-determined = same cellsCount (λ _ a r s p. p)
 
-pub start-number-determined : (κs : _) (a a′ : _) (r r′ : _) (s s′ : _) → Start-number κs a r s → Start-number κs a′ r′ s′ → a .0 ≡ a′ .0 → r ≡ r′
-start-number-determined κs a a′ r r′ s s′ p q e = p ∙ ap startNumber e ∙ sym q
+pub start-number-determined : Determined Start ℕ Start-number (λ _ a. a .0) (λ _ r s. r)
+start-number-determined = same startNumber (λ _ a r s p. p)
 
 -- ---- each contract leaves no choice: of equal arguments it allows one result. `Post` is the contract itself, as Rattle reads it off the source.
 
-pub side-determined : (κs : _) (a a′ : _) (r r′ : _) (s s′ : _) → Side κs a r s → Side κs a′ r′ s′ → a .0 ≡ a′ .0 → r ≡ r′
-side-determined κs a a′ r r′ s s′ p q size = p ∙ ap side size ∙ sym q
+pub side-determined : Determined ℕ Bool Side (λ _ a. a .0) (λ _ r s. r)
+side-determined = same side (λ _ a r s p. p)
 
-pub row-bytes-determined : (κs : _) (a a′ : _) (r r′ : _) (s s′ : _) → Row-bytes κs a r s → Row-bytes κs a′ r′ s′ → a .0 ≡ a′ .0 → r ≡ r′
-row-bytes-determined κs a a′ r r′ s s′ p q w = p ∙ ap rowBytes w ∙ sym q
+pub row-bytes-determined : Determined ℕ ℕ Row-bytes (λ _ a. a .0) (λ _ r s. r)
+row-bytes-determined = same rowBytes (λ _ a r s p. p)
 
-pub bad-chart-determined : (κs : _) (a a′ : _) (r r′ : _) (s s′ : _) → Bad-chart κs a r s → Bad-chart κs a′ r′ s′ →
-    a .0 ≡ a′ .0 → now (a .1 .0) ≡ now (a′ .1 .0) → r ≡ r′
-bad-chart-determined κs a a′ r r′ s s′ p q c pixels = p ∙ ap₂ badChart c pixels ∙ sym q
+pub bad-chart-determined : Determined (Chart × List ℕ) Bool Bad-chart (λ _ a. (a .0, now (a .1 .0))) (λ _ r s. r)
+bad-chart-determined = same (λ x. badChart (x .0) (x .1)) (λ _ a r s p. p)
 
-pub inside-determined : (κs : _) (a a′ : _) (r r′ : _) (s s′ : _) → Inside κs a r s → Inside κs a′ r′ s′ →
-    a .0 ≡ a′ .0 → a .1 .0 ≡ a′ .1 .0 → a .1 .1 .0 ≡ a′ .1 .1 .0 → r ≡ r′
-inside-determined κs a a′ r r′ s s′ p q c x y = p ∙ (λ i. inside (c i) (x i) (y i)) ∙ sym q
+pub inside-determined : Determined (Chart × ℕ × ℕ) Bool Inside (λ _ a. (a .0, a .1 .0, a .1 .1 .0)) (λ _ r s. r)
+inside-determined = same (λ x. inside (x .0) (x .1) (x .2)) (λ _ a r s p. p)
 
-pub pixel-determined : (κs : _) (a a′ : _) (r r′ : _) (s s′ : _) → Pixel κs a r s → Pixel κs a′ r′ s′ →
-    a .0 ≡ a′ .0 → now (a .1 .0) ≡ now (a′ .1 .0) → a .1 .1 .0 ≡ a′ .1 .1 .0 → a .1 .1 .1 .0 ≡ a′ .1 .1 .1 .0 → r ≡ r′
-pixel-determined κs a a′ r r′ s s′ p q c pixels x y = p ∙ (λ i. pixelAt (c i) (pixels i) (x i) (y i)) ∙ sym q
+pub pixel-determined : Determined (Chart × List ℕ × ℤ × ℤ) Bool Pixel (λ _ a. (a .0, now (a .1 .0), a .1 .1 .0, a .1 .1 .1 .0)) (λ _ r s. r)
+pixel-determined = same (λ x. pixelAt (x .0) (x .1) (x .2) (x .3)) (λ _ a r s p. p)
 
 -- The contract leaves no choice: of equal arguments it allows one result. `Post` is the contract itself, as Rattle reads it off the source.
-pub around-determined : (κs : _) (a a′ : _) (r r′ : _) (s s′ : _) → Around κs a r s → Around κs a′ r′ s′ →
-    a .0 ≡ a′ .0 → now (a .1 .0) ≡ now (a′ .1 .0) → a .1 .1 .0 ≡ a′ .1 .1 .0 → a .1 .1 .1 .0 ≡ a′ .1 .1 .1 .0 → r ≡ r′
-around-determined κs a a′ r r′ s s′ p q c pixels x y = p ∙ (λ i. aroundOf (c i) (pixels i) (x i) (y i)) ∙ sym q
+pub around-determined : Determined (Chart × List ℕ × ℤ × ℤ) ℕ Around (λ _ a. (a .0, now (a .1 .0), a .1 .1 .0, a .1 .1 .1 .0)) (λ _ r s. r)
+around-determined = same (λ x. aroundOf (x .0) (x .1) (x .2) (x .3)) (λ _ a r s p. p)
 
 -- ---- each contract leaves no choice: of equal arguments it allows one result. `Post` is the contract itself, as Rattle reads it off the source.
 
-pub area-determined : (κs : _) (a a′ : _) (r r′ : _) (s s′ : _) → Area κs a r s → Area κs a′ r′ s′ →
-    a .0 ≡ a′ .0 → now (a .1 .0) ≡ now (a′ .1 .0) → r ≡ r′
-area-determined κs a a′ r r′ s s′ p q c pixels = p ∙ ap₂ areaOf c pixels ∙ sym q
+pub area-determined : Determined (Chart × List ℕ) Cells Area (λ _ a. (a .0, now (a .1 .0))) (λ _ r s. r)
+area-determined = same (λ x. areaOf (x .0) (x .1)) (λ _ a r s p. p)
 
-pub first-start-determined : (κs : _) (a a′ : _) (r r′ : _) (s s′ : _) → First-start κs a r s → First-start κs a′ r′ s′ →
-    a .0 ≡ a′ .0 → now (a .1 .0) ≡ now (a′ .1 .0) → r ≡ r′
-first-start-determined κs a a′ r r′ s s′ p q c pixels = p ∙ ap₂ firstStart c pixels ∙ sym q
+pub first-start-determined : Determined (Chart × List ℕ) Start First-start (λ _ a. (a .0, now (a .1 .0))) (λ _ r s. r)
+first-start-determined = same (λ x. firstStart (x .0) (x .1)) (λ _ a r s p. p)
 
 -- ---- no more is set than the chart has pixels
 

@@ -22,8 +22,10 @@ cellsCount (Cells.Refused r) = 0
 
 abbrev pub startNumber : Start → ℕ
 startNumber (Start.At p) = 0
+startNumber Start.NoWay = 8
 startNumber (Start.Refused r) = refusalNumber r
 
 abbrev pub startValues : Start → List ℤ
 startValues (Start.At p) = p .x ∷ p .y ∷ []
+startValues Start.NoWay = []
 startValues (Start.Refused r) = []

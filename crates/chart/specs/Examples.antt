@@ -4,7 +4,7 @@ use mathlib.Core.List.{[], _∷_}
 use mathlib.Core.Path.{_≡_, refl}
 use lib.IntN.{pos, negsuc}
 use lib.ListN.{replicate}
-use Rattle.point.specs.declared.refusal.Refusal.the-variants.{BadSize, NoWay}
+use Rattle.point.specs.declared.refusal.Refusal.the-variants.{BadSize}
 use Rattle.chart.specs.Pixels.{badChart, pixelAt, aroundOf}
 use Rattle.chart.specs.Area.{areaOf}
 use Rattle.chart.specs.Start.{firstStart}
@@ -59,6 +59,6 @@ second-row : firstStart (record { width = 2; height = 2 }) (0b00111111 ∷ 0b010
 unfolding badChart firstStart
 second-row = refl
 
-blank : firstStart (record { width = 2; height = 2 }) (0b00111111 ∷ 0b00000001 ∷ []) ≡ Start.Refused NoWay
+blank : firstStart (record { width = 2; height = 2 }) (0b00111111 ∷ 0b00000001 ∷ []) ≡ Start.NoWay
 unfolding badChart firstStart
 blank = refl

@@ -9,11 +9,11 @@ use lib.IntN.{pos}
 use Rattle.point.specs.Refusals.{refuse_when_or_}
 use Rattle.point.specs.declared.PointI32.{PointI32}
 use Rattle.point.specs.declared.refusal.Refusal.{Refusal}
-use Rattle.point.specs.declared.refusal.Refusal.the-variants.{BadSize, NoWay}
+use Rattle.point.specs.declared.refusal.Refusal.the-variants.{BadSize}
 use Rattle.chart.specs.Pixels.{bitOf, cell, badChart}
 use Rattle.chart.specs.declared.Chart.{Chart}
 use Rattle.chart.specs.declared.Start.{Start}
-use Rattle.chart.specs.declared.Start.the-variants.{At, Refused}
+use Rattle.chart.specs.declared.Start.the-variants.{At, NoWay, Refused}
 
 abbrev pub pointIf : Bool → PointI32 → Option PointI32
 pointIf true p = some p
@@ -49,7 +49,7 @@ firstInRows c pixels y (suc n) = orElse (firstInRow c pixels 0 y (c .width)) (fi
 -- "a blank chart gives NoWay"
 abbrev pub startOr : Option PointI32 → Start
 startOr (some p) = At p
-startOr none = Refused NoWay
+startOr none = NoWay
 
 unfoldable pub startAnswer : Option Refusal → Chart → List ℕ → Start
 unfolding firstInRows

@@ -27,7 +27,7 @@ pub fn first_start(chart: Chart, pixels: &[u8]) -> Start
         }
         y += 1;
     }
-    Start::Refused(Refusal::NoWay)
+    Start::NoWay
 }
 
 // The top left corner of the pixel in column `x` of row `y`.

@@ -38,6 +38,8 @@ pub enum Cells {
 // Where a walk may begin.
 pub enum Start {
     At(PointI32),
+    // A blank chart has no such place.
+    NoWay,
     Refused(Refusal),
 }
 
@@ -70,6 +72,7 @@ impl Start {
     {
         match self {
             Start::At(_) => 0,
+            Start::NoWay => 8,
             Start::Refused(refusal) => refusal.number(),
         }
     }

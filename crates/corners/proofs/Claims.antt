@@ -15,17 +15,15 @@ use Rattle.corners.specs.Corners.{seen, cornersOf}
 use Rattle.corners.specs.Calls.{Outcome, refusal, outcome, findCornersOf}
 use Rattle.corners.proofs.OneMore.{length-flags}
 use Rattle.corners.proofs.flags.find_corners.Reads.{Post as Find-corners}
+use Rattle.laws.proofs.Determined.{Determined, same}
 
 -- ---- the contract leaves no choice: of equal arguments it allows one answer, and one last content of the flags. `Post` is the contract
 -- itself, as Rattle reads it off the source, at arguments `a`, a result `r` and parameters at exit `s`.
 
-pub find-corners-determined : (κs : _) (a a′ : _) (r r′ : _) (s s′ : _) → Find-corners κs a r s → Find-corners κs a′ r′ s′ →
-    now (a .0) ≡ now (a′ .0) → a .1 .0 ≡ a′ .1 .0 → a .1 .1 .0 ≡ a′ .1 .1 .0 → now (a .1 .1 .1 .0) ≡ now (a′ .1 .1 .1 .0) →
-    _≡_ {A = Outcome} (record { answer = r; flags = now (s .1 .1 .1 .0) }) (record { answer = r′; flags = now (s′ .1 .1 .1 .0) })
-find-corners-determined κs a a′ r r′ s s′ p q e f g h =
-    let same : findCornersOf (now (a .0)) (a .1 .0) (a .1 .1 .0) (now (a .1 .1 .1 .0))
-    ≡ findCornersOf (now (a′ .0)) (a′ .1 .0) (a′ .1 .1 .0) (now (a′ .1 .1 .1 .0)) = rw (e, f, g, h) in
-    p ∙ same ∙ sym q
+pub find-corners-determined : Determined (List ℤ × Pair × Bool × List ℕ) Outcome Find-corners
+    (λ _ a. (now (a .0), a .1 .0, a .1 .1 .0, now (a .1 .1 .1 .0)))
+    (λ _ r s. record { answer = r; flags = now (s .1 .1 .1 .0) })
+find-corners-determined = same (λ x. findCornersOf (x .0) (x .1) (x .2) (x .3)) (λ _ a r s p. p)
 
 -- ---- a refusal changes no flag
 

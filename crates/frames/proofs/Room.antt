@@ -23,7 +23,8 @@ use Rattle.frames.proofs.Parts.{at-most-two, points-part, numbers-part}
 use Rattle.frames.specs.Calls.{walkReply, simplifyReply, reduceReply, numbersReply}
 use Rattle.point.specs.Refusals.{numberOf, countOf}
 use Rattle.point.specs.declared.refusal.Answer.{Answer}
-use Rattle.simplify.specs.Simplify.{Outcome, simplifyOf}
+use Rattle.point.specs.Outcomes.{Points}
+use Rattle.simplify.specs.Simplify.{simplifyOf}
 use Rattle.simplify.proofs.Claims.{simplify-fits}
 use Rattle.reduce.specs.Reduce.{Reduced, Numbered, reduceOf, numberedOf}
 use Rattle.reduce.proofs.Claims.{reduce-fits, numbers-fit}
@@ -60,7 +61,7 @@ module _ (list : List ℤ) (cw : Bool) where
 
   module _ (a : Answer) (kept : List ℤ) (k : ℕ) (is : record { answer = a; out = kept } ≡ simplifyOf list cw room) (count : k ≡ countOf a) where
     few-kept : k * 2 ≤ 8190
-    few-kept = omega (arith, counts, count ∙ ap (λ (o : Outcome). countOf (o .answer)) is)
+    few-kept = omega (arith, counts, count ∙ ap (λ (o : Points). countOf (o .answer)) is)
 
     pub kept-fit : (j : ℕ) → j ≤ 2 → Fits w64 (k * j)
     kept-fit j h = record { fits = omega (arith, at-most-two k j few-kept h) }
@@ -72,7 +73,7 @@ module _ (list : List ℤ) (cw : Bool) where
         record { next = r; out = last } ≡ put (pointsText 2 n (take (k * 2 - 0) kept)) out at →
         record { next = r; out = last } ≡ put (simplifyReply (simplifyOf list cw room)) out at
     kept-put n at r out last number e =
-        e ∙ points-part 2 n (numberOf a) k (countOf a) at kept out number count ∙ ap (λ (o : Outcome). put (simplifyReply o) out at) is
+        e ∙ points-part 2 n (numberOf a) k (countOf a) at kept out number count ∙ ap (λ (o : Points). put (simplifyReply o) out at) is
 
 -- ---- kind 03
 

@@ -6,13 +6,13 @@ use Rattle.walker.specs.Answers.{walkedNumber, walkedCount}
 use Rattle.walker.specs.Walk.{Outcome as Walked}
 use Rattle.frames.specs.Replies.{pointsText, numbersText}
 use Rattle.point.specs.Refusals.{numberOf, countOf}
-use Rattle.simplify.specs.Simplify.{Outcome}
+use Rattle.point.specs.Outcomes.{Points}
 use Rattle.reduce.specs.Reduce.{Reduced, Numbered}
 
 abbrev pub walkReply : Walked → List ℕ
 walkReply o = pointsText 1 (walkedNumber (o .answer)) (take (walkedCount (o .answer) * 2) (o .out))
 
-abbrev pub simplifyReply : Outcome → List ℕ
+abbrev pub simplifyReply : Points → List ℕ
 simplifyReply o = pointsText 2 (numberOf (o .answer)) (take (countOf (o .answer) * 2) (o .out))
 
 abbrev pub reduceReply : Reduced → List ℕ

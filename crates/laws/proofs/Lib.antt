@@ -14,6 +14,7 @@
 --     Lists        a list laid over the start of a lent buffer (`over`), and stores there
 --     Examples     a squared distance, bounded
 pub mod If
+pub mod Determined
 pub mod Joined
 pub mod Integers
 pub mod Ring

@@ -9,7 +9,7 @@ use lib.ListN.{length, take, drop}
 use borrow.Author.Tests.{ltb-true, ltb-false}
 use denote.Ref.{now}
 use Rattle.texts.proofs.Claims.{next-within}
-use Rattle.lines.specs.If.{if-cases}
+use Rattle.laws.proofs.If.{if-cases}
 use Rattle.lines.specs.Reader.{Outcome, inside, newline, lineEnds, inputEnds, count, refill, took, taken}
 use Rattle.lines.specs.Turns.{Next, Step, begun, fedState, answeredState, turnOf, nextTurn, line, stepped, stepOf}
 use Rattle.lines.specs.declared.reader.Reader.{Reader}

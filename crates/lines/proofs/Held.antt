@@ -12,7 +12,7 @@ use borrow.Author.Tests.{ltb-true, ltb-false, eqb-true, eqb-false}
 use Rattle.words.specs.Line.{upTo}
 use Rattle.words.proofs.Parts.{upTo-le}
 use Rattle.laws.proofs.Joined.{both-false, or-second}
-use Rattle.lines.specs.If.{if-cases}
+use Rattle.laws.proofs.If.{if-cases}
 use Rattle.lines.specs.Reader.{Outcome, fedReader, inside, past, lineEnds, inputEnds, count, held, newline, refill, took, taken}
 use Rattle.lines.specs.declared.reader.Reader.{Reader}
 use Rattle.lines.specs.declared.reader.Taken.{Taken}

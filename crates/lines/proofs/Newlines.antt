@@ -10,7 +10,7 @@ use lib.ListN.{length, take, drop}
 use lib.Seq.{take-all}
 use borrow.Author.Tests.{eqb-true}
 use Rattle.words.specs.Line.{upTo}
-use Rattle.lines.specs.If.{if_then_else_}
+use Rattle.laws.specs.If.{if_then_else_}
 use Rattle.lines.specs.Runs.{linesOf, wholeLines}
 
 -- no byte of it is a newline

@@ -8,7 +8,7 @@ use native.Mathlib.Omega.{arith}
 use lib.ListN.{length, length-append}
 use lib.Seq.{append-snoc}
 use borrow.Author.Tests.{lt-ltb, le-ltb}
-use Rattle.lines.specs.If.{if_then_else_}
+use Rattle.laws.specs.If.{if_then_else_}
 use Rattle.lines.specs.Turns.{line}
 use Rattle.lines.specs.Runs.{linesOf, wholeLines, handed, answersTo}
 use Rattle.lines.proofs.Newlines.{Free, free-append, whole-line, lines-line, none-whole, one-line}

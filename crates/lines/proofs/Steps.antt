@@ -7,7 +7,7 @@ use native.Mathlib.Omega.{arith}
 use lib.Dec.{ltb}
 use lib.ListN.{length, take, drop, length-append}
 use borrow.Author.Tests.{ltb-true, ltb-false}
-use Rattle.lines.specs.If.{if-cases}
+use Rattle.laws.proofs.If.{if-cases}
 use Rattle.lines.specs.Reader.{Outcome, taken}
 use Rattle.lines.specs.Turns.{Next, Step, line, turnOf, nextTurn, stepped, stepOf}
 use Rattle.lines.specs.Runs.{Machine, linesOf, wholeLines, answersTo, done, stepIn}

@@ -5,7 +5,7 @@ use mathlib.Core.List.{List, [], _∷_, _++_}
 use lib.Dec.{ltb, eqb}
 use lib.ListN.{length, take, drop}
 use Rattle.words.specs.Line.{onto}
-use Rattle.lines.specs.If.{if_then_else_}
+use Rattle.laws.specs.If.{if_then_else_}
 use Rattle.lines.specs.Turns.{Step, begun, fedState, line, stepOf}
 use Rattle.lines.specs.declared.turns.State.{State}
 use Rattle.lines.specs.declared.turns.Turn.{Turn}

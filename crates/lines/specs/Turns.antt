@@ -4,7 +4,7 @@ use mathlib.Core.List.{List, [], _∷_, _++_}
 use lib.Dec.{ltb}
 use lib.ListN.{take, drop}
 use Rattle.texts.specs.Put.{put}
-use Rattle.lines.specs.If.{if_then_else_}
+use Rattle.laws.specs.If.{if_then_else_}
 use Rattle.lines.specs.Reader.{freshReader, fedReader, taken}
 use Rattle.lines.specs.declared.reader.Reader.{Reader}
 use Rattle.lines.specs.declared.reader.Taken.{Taken}

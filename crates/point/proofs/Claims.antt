@@ -30,48 +30,53 @@ use Rattle.point.specs.Points.{pointAt, flat}
 use Rattle.point.proofs.list.point_at.Reads.{Post as Point-at}
 use Rattle.point.proofs.list.put.Reads.{Post as Put}
 use Rattle.laws.proofs.Lists.{length-over}
-use Rattle.point.specs.declared.refusal.Answer.the-variants.{Refused}
+use Rattle.point.specs.declared.refusal.Answer.the-variants.{Done, Refused}
 use Rattle.point.specs.declared.refusal.Refusal.{Refusal}
+use Rattle.point.specs.declared.refusal.Verdict.{Verdict}
 use Rattle.point.proofs.Flat.{length-flat}
-use Rattle.point.specs.Outcomes.{Outcome, refusal, verdict, outcome}
+use Rattle.laws.specs.Outcome.{Outcome}
+use Rattle.point.specs.Outcomes.{Points, refusal, verdict, outcome, handed, passed}
 use Rattle.point.proofs.limits.judge.Reads.{Post as Judge}
+use Rattle.laws.proofs.Determined.{Determined, same}
+use Rattle.point.specs.declared.refusal.Answer.{Answer}
+use lib.Ieee.{Float}
 
 -- Each contract leaves no choice: of equal arguments it allows one result. `Post` is the contract itself, as Rattle reads it off the source.
 
-pub refusal-number-determined : (κs : _) (a a′ : _) (r r′ : _) (s s′ : _) → Refusal-number κs a r s → Refusal-number κs a′ r′ s′ → a .0 ≡ a′ .0 → r ≡ r′
-refusal-number-determined κs a a′ r r′ s s′ p q e = p ∙ ap refusalNumber e ∙ sym q
+pub refusal-number-determined : Determined Refusal ℕ Refusal-number (λ _ a. a .0) (λ _ r s. r)
+refusal-number-determined = same refusalNumber (λ _ a r s p. p)
 
-pub answer-number-determined : (κs : _) (a a′ : _) (r r′ : _) (s s′ : _) → Answer-number κs a r s → Answer-number κs a′ r′ s′ → a .0 ≡ a′ .0 → r ≡ r′
-answer-number-determined κs a a′ r r′ s s′ p q e = p ∙ ap numberOf e ∙ sym q
+pub answer-number-determined : Determined Answer ℕ Answer-number (λ _ a. a .0) (λ _ r s. r)
+answer-number-determined = same numberOf (λ _ a r s p. p)
 
-pub answer-count-determined : (κs : _) (a a′ : _) (r r′ : _) (s s′ : _) → Answer-count κs a r s → Answer-count κs a′ r′ s′ → a .0 ≡ a′ .0 → r ≡ r′
-answer-count-determined κs a a′ r r′ s s′ p q e = p ∙ ap countOf e ∙ sym q
+pub answer-count-determined : Determined Answer ℕ Answer-count (λ _ a. a .0) (λ _ r s. r)
+answer-count-determined = same countOf (λ _ a r s p. p)
 
 -- ---- each contract leaves no choice: of equal arguments it allows one result. `Post` is the contract itself, as Rattle reads it off the source.
 
-pub too-many-determined : (κs : _) (a a′ : _) (r r′ : _) (s s′ : _) → Too-many κs a r s → Too-many κs a′ r′ s′ → a .0 ≡ a′ .0 → r ≡ r′
-too-many-determined κs a a′ r r′ s s′ p q e = p ∙ ap tooMany e ∙ sym q
+pub too-many-determined : Determined ℕ Bool Too-many (λ _ a. a .0) (λ _ r s. r)
+too-many-determined = same tooMany (λ _ a r s p. p)
 
-pub in-range-determined : (κs : _) (a a′ : _) (r r′ : _) (s s′ : _) → In-range κs a r s → In-range κs a′ r′ s′ → a .0 ≡ a′ .0 → r ≡ r′
-in-range-determined κs a a′ r r′ s s′ p q e = p ∙ ap inRange e ∙ sym q
+pub in-range-determined : Determined ℤ Bool In-range (λ _ a. a .0) (λ _ r s. r)
+in-range-determined = same inRange (λ _ a r s p. p)
 
-pub in-range-f64-determined : (κs : _) (a a′ : _) (r r′ : _) (s s′ : _) → In-range-f64 κs a r s → In-range-f64 κs a′ r′ s′ → a .0 ≡ a′ .0 → r ≡ r′
-in-range-f64-determined κs a a′ r r′ s s′ p q e = p ∙ ap inRangeF64 e ∙ sym q
+pub in-range-f64-determined : Determined Float Bool In-range-f64 (λ _ a. a .0) (λ _ r s. r)
+in-range-f64-determined = same inRangeF64 (λ _ a r s p. p)
 
-pub places-for-determined : (κs : _) (a a′ : _) (r r′ : _) (s s′ : _) → Places-for κs a r s → Places-for κs a′ r′ s′ → a .0 ≡ a′ .0 → r ≡ r′
-places-for-determined κs a a′ r r′ s s′ p q e = p ∙ ap placesFor e ∙ sym q
+pub places-for-determined : Determined ℕ ℕ Places-for (λ _ a. a .0) (λ _ r s. r)
+places-for-determined = same placesFor (λ _ a r s p. p)
 
-pub bad-points-determined : (κs : _) (a a′ : _) (r r′ : _) (s s′ : _) → Bad-points κs a r s → Bad-points κs a′ r′ s′ → now (a .0) ≡ now (a′ .0) → r ≡ r′
-bad-points-determined κs a a′ r r′ s s′ p q e = p ∙ ap badPoints e ∙ sym q
+pub bad-points-determined : Determined (List ℤ) Bool Bad-points (λ _ a. now (a .0)) (λ _ r s. r)
+bad-points-determined = same badPoints (λ _ a r s p. p)
 
-pub bad-points-f64-determined : (κs : _) (a a′ : _) (r r′ : _) (s s′ : _) → Bad-points-f64 κs a r s → Bad-points-f64 κs a′ r′ s′ → now (a .0) ≡ now (a′ .0) → r ≡ r′
-bad-points-f64-determined κs a a′ r r′ s s′ p q e = p ∙ ap badPointsF64 e ∙ sym q
+pub bad-points-f64-determined : Determined (List Float) Bool Bad-points-f64 (λ _ a. now (a .0)) (λ _ r s. r)
+bad-points-f64-determined = same badPointsF64 (λ _ a r s p. p)
 
-pub bad-tolerance-determined : (κs : _) (a a′ : _) (r r′ : _) (s s′ : _) → Bad-tolerance κs a r s → Bad-tolerance κs a′ r′ s′ → a .0 ≡ a′ .0 → r ≡ r′
-bad-tolerance-determined κs a a′ r r′ s s′ p q e = p ∙ ap badTolerance e ∙ sym q
+pub bad-tolerance-determined : Determined Float Bool Bad-tolerance (λ _ a. a .0) (λ _ r s. r)
+bad-tolerance-determined = same badTolerance (λ _ a r s p. p)
 
-pub bad-sq-tolerance-determined : (κs : _) (a a′ : _) (r r′ : _) (s s′ : _) → Bad-sq-tolerance κs a r s → Bad-sq-tolerance κs a′ r′ s′ → a .0 ≡ a′ .0 → r ≡ r′
-bad-sq-tolerance-determined κs a a′ r r′ s s′ p q e = p ∙ ap badSqTolerance e ∙ sym q
+pub bad-sq-tolerance-determined : Determined Float Bool Bad-sq-tolerance (λ _ a. a .0) (λ _ r s. r)
+bad-sq-tolerance-determined = same badSqTolerance (λ _ a r s p. p)
 
 -- ---- what a list that is not refused is
 
@@ -108,39 +113,48 @@ coordinates-fit xs good k =
 -- ---- each contract leaves no choice: of equal arguments it allows one answer, and one last content of the buffer. `Post` is the contract
 -- itself, as Rattle reads it off the source, at arguments `a`, a result `r` and parameters at exit `s`.
 
-pub point-at-determined : (κs : _) (a a′ : _) (r r′ : _) (s s′ : _) → Point-at κs a r s → Point-at κs a′ r′ s′ →
-    now (a .0) ≡ now (a′ .0) → a .1 .0 ≡ a′ .1 .0 → r ≡ r′
-point-at-determined κs a a′ r r′ s s′ p q points k = p ∙ ap₂ pointAt points k ∙ sym q
+pub point-at-determined : Determined (List ℤ × ℕ) PointI32 Point-at (λ _ a. (now (a .0), a .1 .0)) (λ _ r s. r)
+point-at-determined = same (λ x. pointAt (x .0) (x .1)) (λ _ a r s p. p)
 
 stored : PointI32 → ℕ → List ℤ → List ℤ
 stored p k out = set (set out (k * 2) (p .x)) (k * 2 + 1) (p .y)
 
-pub put-determined : (κs : _) (a a′ : _) (r r′ : _) (s s′ : _) → Put κs a r s → Put κs a′ r′ s′ →
-    a .0 ≡ a′ .0 → a .1 .0 ≡ a′ .1 .0 → now (a .1 .1 .0) ≡ now (a′ .1 .1 .0) → now (s .1 .1 .0) ≡ now (s′ .1 .1 .0)
+pub put-determined : Determined (PointI32 × ℕ × List ℤ) (List ℤ) Put (λ _ a. (a .0, a .1 .0, now (a .1 .1 .0))) (λ _ r s. now (s .1 .1 .0))
 unfolding stored
-put-determined κs a a′ r r′ s s′ p q point k out =
-    let same : stored (a .0) (a .1 .0) (now (a .1 .1 .0)) ≡ stored (a′ .0) (a′ .1 .0) (now (a′ .1 .1 .0)) = rw (point, k, out) in
-    p ∙ same ∙ sym q
+put-determined = same (λ x. stored (x .0) (x .1) (x .2)) (λ _ a r s p. p)
 
 -- the contract leaves no choice: to lists of the same values and to the same room it allows one verdict
-pub judge-determined : (κs : _) (a a′ : _) (r r′ : _) (s s′ : _) → Judge κs a r s → Judge κs a′ r′ s′ →
-    now (a .0) ≡ now (a′ .0) → a .1 .0 ≡ a′ .1 .0 → r ≡ r′
-judge-determined κs a a′ r r′ s s′ p q list room = p ∙ ap₂ (λ (l : List ℤ) (n : ℕ). verdict (refusal l n)) list room ∙ sym q
+pub judge-determined : Determined (List ℤ × ℕ) Verdict Judge (λ _ a. (now (a .0), a .1 .0)) (λ _ r s. r)
+judge-determined = same (λ x. verdict (refusal (x .0) (x .1))) (λ _ a r s p. p)
 
--- a refusal changes nothing
-pub outcome-unchanged : (o : Option Refusal) (ps : List PointI32) (out : List ℤ) (r : Refusal) → outcome o ps out .answer ≡ Refused r → outcome o ps out .out ≡ out
+-- ---- a refusal changes nothing, whatever was lent
+
+pub refusal-changes-nothing : {B : Type 0} (o : Option Refusal) (old : B) (done : Outcome Answer B) (n : ℕ) → done .answer ≡ Done n →
+    (r : Refusal) → outcome Refused o old done .answer ≡ Refused r → outcome Refused o old done .out ≡ old
 unfolding outcome
-outcome-unchanged (some q) ps out r e = refl
-outcome-unchanged none ps out r e = let z : _≡_ {A = ℕ} 0 1 = cc in absurd (omega arith)
+refusal-changes-nothing (some q) old done n d r e = refl
+refusal-changes-nothing none old done n d r e =
+    let f : Done n ≡ Refused r = sym d ∙ e in
+    let z : _≡_ {A = ℕ} 0 1 = cc in
+    absurd (omega arith)
+
+-- ---- a call that hands out points for a list of points
+
+pub passed-unchanged : (list : List ℤ) (ps : List PointI32) (out : List ℤ) (r : Refusal) → passed list ps out .answer ≡ Refused r → passed list ps out .out ≡ out
+unfolding passed
+passed-unchanged list ps out r = refusal-changes-nothing (refusal list (length out)) out (handed ps out) (length ps) refl r
 
 -- what is counted fits the buffer, and the buffer keeps its length
-pub record Fitting (o : Outcome) (out : List ℤ) : Type 0 where
+pub record Fitting (o : Points) (out : List ℤ) : Type 0 where
   pub counted : countOf (o .answer) * 2 ≤ length out
   pub long : length (o .out) ≡ length out
 
-pub outcome-fitting : (o : Option Refusal) (ps : List PointI32) (out : List ℤ) → (o ≡ none → length ps * 2 ≤ length out) → Fitting (outcome o ps out) out
-unfolding outcome
-outcome-fitting (some q) ps out h = record { counted = omega arith; long = refl }
-outcome-fitting none ps out h =
-    let k : length ps * 2 ≤ length out = h refl in
-    record { counted = k; long = length-over (flat ps) out (omega (arith, length-flat ps)) }
+pub passed-fitting : (list : List ℤ) (ps : List PointI32) (out : List ℤ) → (refusal list (length out) ≡ none → length ps * 2 ≤ length out) → Fitting (passed list ps out) out
+unfolding passed
+passed-fitting list ps out h = by (refusal list (length out)) h
+  where
+    by : (o : Option Refusal) → (o ≡ none → length ps * 2 ≤ length out) → Fitting (outcome Refused o out (handed ps out)) out
+    by (some q) h = record { counted = omega arith; long = refl }
+    by none h =
+        let k : length ps * 2 ≤ length out = h refl in
+        record { counted = k; long = length-over (flat ps) out (omega (arith, length-flat ps)) }

@@ -19,7 +19,7 @@ use Rattle.point.proofs.Claims.{whole-points}
 use Rattle.point.specs.Points.{count}
 use Rattle.point.specs.inside.Written.{Handed}
 use Rattle.point.proofs.Room.{places-bounds}
-use Rattle.point.specs.Outcomes.{refusal, verdict, outcome}
+use Rattle.point.specs.Outcomes.{refusal, verdict, outcome, handed, passed}
 use Rattle.point.specs.declared.refusal.Verdict.{Verdict}
 use Rattle.point.specs.declared.refusal.Verdict.the-variants.{Fine, Refused as Refused′}
 
@@ -63,11 +63,11 @@ module _ (list : List ℤ) (room : ℕ) (v : Verdict) (says : v ≡ verdict (ref
     list-fits = omega (arith, places, places-bounds (count list), whole-points inRange list good)
 
 module _ (list out : List ℤ) (v : Verdict) (says : v ≡ verdict (refusal list (length out))) (ps : List PointI32) where
-  pub refused-outcome : (r : Refusal) → v ≡ Refused′ r → record { answer = Refused r; out = out } ≡ outcome (refusal list (length out)) ps out
-  unfolding outcome
+  pub refused-outcome : (r : Refusal) → v ≡ Refused′ r → record { answer = Refused r; out = out } ≡ passed list ps out
+  unfolding passed
   refused-outcome r e = rw (refused-is v (refusal list (length out)) r says e)
 
   pub handed-outcome : v ≡ Fine → (n : ℕ) (last : List ℤ) → Handed ps out n last →
-      record { answer = Done n; out = last } ≡ outcome (refusal list (length out)) ps out
-  unfolding outcome
+      record { answer = Done n; out = last } ≡ passed list ps out
+  unfolding passed
   handed-outcome e n last h = rw (fine-is v (refusal list (length out)) says e, h .counted, h .written)

@@ -5,7 +5,7 @@ use mathlib.Core.Option.{Option, some}
 use Rattle.point.specs.declared.refusal.Answer.{Answer}
 use Rattle.point.specs.declared.refusal.Answer.the-variants.{Done, Refused}
 use Rattle.point.specs.declared.refusal.Refusal.{Refusal}
-use Rattle.point.specs.declared.refusal.Refusal.the-variants.{BadSize, TooMany, BadPoint, TooFew, BadTolerance, BadFlags, BadSettings, NoWay, Stuck, NoRoom, BadFrame, BadPicture}
+use Rattle.point.specs.declared.refusal.Refusal.the-variants.{BadSize, TooMany, BadPoint, TooFew, BadTolerance, BadFlags, BadSettings, NoRoom, BadFrame, BadPicture}
 
 -- the number of a refusal
 abbrev pub refusalNumber : Refusal → ℕ
@@ -16,8 +16,6 @@ refusalNumber TooFew = 4
 refusalNumber BadTolerance = 5
 refusalNumber BadFlags = 6
 refusalNumber BadSettings = 7
-refusalNumber NoWay = 8
-refusalNumber Stuck = 9
 refusalNumber NoRoom = 10
 refusalNumber BadFrame = 11
 refusalNumber BadPicture = 12

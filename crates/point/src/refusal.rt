@@ -2,7 +2,8 @@
 ghost use mathlib.Core.Path.{_≡_};
 ghost use Rattle.point.specs.Refusals.{refusalNumber, numberOf, countOf};
 
-// Why a call refuses. The lowest that applies is given, and no lent buffer is changed.
+// Why a call refuses. The lowest that applies is given, and no lent buffer is changed. That a chart has no way
+// to go (8), and that a walk is stuck (9), is no refusal: the calls that find it answer it by cases of their own.
 pub enum Refusal {
     // A chart's size, a spiral's size or a field of its state is out of range, or the pixels are too few.
     BadSize,
@@ -18,10 +19,6 @@ pub enum Refusal {
     BadFlags,
     // A ratio, a length or a pair is out of range or NaN.
     BadSettings,
-    // A blank chart has no first start. (A walk from a start with no exit answers `Walked::NoWay`.)
-    NoWay,
-    // Given by no call: a walk of over 1,000,000 steps answers `Walked::Stuck`, of the same number.
-    Stuck,
     // A lent buffer is too short.
     NoRoom,
     // A line is no frame.
@@ -56,8 +53,6 @@ impl Refusal {
             Refusal::BadTolerance => 5,
             Refusal::BadFlags => 6,
             Refusal::BadSettings => 7,
-            Refusal::NoWay => 8,
-            Refusal::Stuck => 9,
             Refusal::NoRoom => 10,
             Refusal::BadFrame => 11,
             Refusal::BadPicture => 12,

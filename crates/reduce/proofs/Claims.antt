@@ -35,23 +35,20 @@ use Rattle.reduce.proofs.radial.Far.{radial-shorter}
 use Rattle.reduce.proofs.Lines.{inWhole, many-points, answers-whole, answers-narrowed, out-room}
 use Rattle.reduce.proofs.radial.simplify_radial_dist.Reads.{Post as Radial}
 use Rattle.reduce.proofs.both_passes.reduce.Reads.{Post as Reduce}
+use Rattle.laws.proofs.Determined.{Determined, same}
 
 -- ---- each contract leaves no choice: of equal arguments it allows one answer, and one last content of every buffer. `Post` is the contract
 -- itself, as Rattle reads it off the source, at arguments `a`, a result `r` and parameters at exit `s`.
 
-pub numbers-determined : (κs : _) (a a′ : _) (r r′ : _) (s s′ : _) → Numbers κs a r s → Numbers κs a′ r′ s′ →
-    now (a .0) ≡ now (a′ .0) → now (a .1 .0) ≡ now (a′ .1 .0) →
-    _≡_ {A = Numbered} (record { answer = r; out = now (s .1 .0) }) (record { answer = r′; out = now (s′ .1 .0) })
-numbers-determined κs a a′ r r′ s s′ p q list out = p ∙ ap₂ numberedOf list out ∙ sym q
+pub numbers-determined : Determined (List ℤ × List Float) Numbered Numbers
+    (λ _ a. (now (a .0), now (a .1 .0)))
+    (λ _ r s. record { answer = r; out = now (s .1 .0) })
+numbers-determined = same (λ x. numberedOf (x .0) (x .1)) (λ _ a r s p. p)
 
-pub zoom-determined : (κs : _) (a a′ : _) (r r′ : _) (s s′ : _) → Zoom κs a r s → Zoom κs a′ r′ s′ →
-    now (a .0) ≡ now (a′ .0) → now (a .1 .0) ≡ now (a′ .1 .0) → a .1 .1 .0 ≡ a′ .1 .1 .0 → now (a .1 .1 .1 .0) ≡ now (a′ .1 .1 .1 .0) →
-    _≡_ {A = Points} (record { answer = r; out = now (s .1 .1 .1 .0) }) (record { answer = r′; out = now (s′ .1 .1 .1 .0) })
-zoom-determined κs a a′ r r′ s s′ p q list numbers tolerance out =
-    p
-    ∙ ap₂ (λ (l : List ℤ) (v : List Float). zoomOf l v (a .1 .1 .0) (now (a .1 .1 .1 .0))) list numbers
-    ∙ ap₂ (zoomOf (now (a′ .0)) (now (a′ .1 .0))) tolerance out
-    ∙ sym q
+pub zoom-determined : Determined (List ℤ × List Float × Float × List ℤ) Points Zoom
+    (λ _ a. (now (a .0), now (a .1 .0), a .1 .1 .0, now (a .1 .1 .1 .0)))
+    (λ _ r s. record { answer = r; out = now (s .1 .1 .1 .0) })
+zoom-determined = same (λ x. zoomOf (x .0) (x .1) (x .2) (x .3)) (λ _ a r s p. p)
 
 -- ---- a refusal changes no buffer
 
@@ -100,15 +97,10 @@ numbers-fit list out = by (numbersRefusal list out) refl
 -- ---- the contract leaves no choice: of equal arguments it allows one answer, and one last content of every buffer. `Post` is the contract
 -- itself, as Rattle reads it off the source, at arguments `a`, a result `r` and parameters at exit `s`.
 
-pub douglas-peucker-determined : (κs : _) (a a′ : _) (r r′ : _) (s s′ : _) → Douglas-peucker κs a r s → Douglas-peucker κs a′ r′ s′ →
-    now (a .0) ≡ now (a′ .0) → a .1 .0 ≡ a′ .1 .0 → now (a .1 .1 .0) ≡ now (a′ .1 .1 .0) → now (a .1 .1 .1 .0) ≡ now (a′ .1 .1 .1 .0) →
-    _≡_ {A = Marked} (record { answer = r; out = now (s .1 .1 .0); marks = now (s .1 .1 .1 .0) })
-    (record { answer = r′; out = now (s′ .1 .1 .0); marks = now (s′ .1 .1 .1 .0) })
-douglas-peucker-determined κs a a′ r r′ s s′ p q list tolerance out marks =
-    p
-    ∙ ap₂ (λ (l : List ℤ) (t : Float). douglasPeuckerOf l t (now (a .1 .1 .0)) (now (a .1 .1 .1 .0))) list tolerance
-    ∙ ap₂ (douglasPeuckerOf (now (a′ .0)) (a′ .1 .0)) out marks
-    ∙ sym q
+pub douglas-peucker-determined : Determined (List ℤ × Float × List ℤ × List ℕ) Marked Douglas-peucker
+    (λ _ a. (now (a .0), a .1 .0, now (a .1 .1 .0), now (a .1 .1 .1 .0)))
+    (λ _ r s. record { answer = r; out = now (s .1 .1 .0); marks = now (s .1 .1 .1 .0) })
+douglas-peucker-determined = same (λ x. douglasPeuckerOf (x .0) (x .1) (x .2) (x .3)) (λ _ a r s p. p)
 
 -- ---- a refusal changes no buffer
 
@@ -142,23 +134,15 @@ douglas-peucker-fits list tolerance out marks = by (splitRefusal list tolerance 
 -- ---- each contract leaves no choice: of equal arguments it allows one answer, and one last content of every buffer. `Post` is the contract
 -- itself, as Rattle reads it off the source, at arguments `a`, a result `r` and parameters at exit `s`.
 
-pub radial-determined : (κs : _) (a a′ : _) (r r′ : _) (s s′ : _) → Radial κs a r s → Radial κs a′ r′ s′ →
-    now (a .0) ≡ now (a′ .0) → a .1 .0 ≡ a′ .1 .0 → now (a .1 .1 .0) ≡ now (a′ .1 .1 .0) →
-    _≡_ {A = Points} (record { answer = r; out = now (s .1 .1 .0) }) (record { answer = r′; out = now (s′ .1 .1 .0) })
-radial-determined κs a a′ r r′ s s′ p q list tolerance out =
-    p ∙ ap₂ (λ (l : List ℤ) (t : Float). radialOf l t (now (a .1 .1 .0))) list tolerance ∙ ap (radialOf (now (a′ .0)) (a′ .1 .0)) out ∙ sym q
+pub radial-determined : Determined (List ℤ × Float × List ℤ) Points Radial
+    (λ _ a. (now (a .0), a .1 .0, now (a .1 .1 .0)))
+    (λ _ r s. record { answer = r; out = now (s .1 .1 .0) })
+radial-determined = same (λ x. radialOf (x .0) (x .1) (x .2)) (λ _ a r s p. p)
 
-pub reduce-determined : (κs : _) (a a′ : _) (r r′ : _) (s s′ : _) → Reduce κs a r s → Reduce κs a′ r′ s′ →
-    now (a .0) ≡ now (a′ .0) → a .1 .0 ≡ a′ .1 .0 → now (a .1 .1 .0) ≡ now (a′ .1 .1 .0) → now (a .1 .1 .1 .0) ≡ now (a′ .1 .1 .1 .0) →
-    now (a .1 .1 .1 .1 .0) ≡ now (a′ .1 .1 .1 .1 .0) →
-    _≡_ {A = Reduced} (record { answer = r; out = now (s .1 .1 .0); scratch = now (s .1 .1 .1 .0); marks = now (s .1 .1 .1 .1 .0) })
-    (record { answer = r′; out = now (s′ .1 .1 .0); scratch = now (s′ .1 .1 .1 .0); marks = now (s′ .1 .1 .1 .1 .0) })
-reduce-determined κs a a′ r r′ s s′ p q list tolerance out scratch marks =
-    p
-    ∙ ap₂ (λ (l : List ℤ) (t : Float). reduceOf l t (now (a .1 .1 .0)) (now (a .1 .1 .1 .0)) (now (a .1 .1 .1 .1 .0))) list tolerance
-    ∙ ap₂ (λ (o c : List ℤ). reduceOf (now (a′ .0)) (a′ .1 .0) o c (now (a .1 .1 .1 .1 .0))) out scratch
-    ∙ ap (reduceOf (now (a′ .0)) (a′ .1 .0) (now (a′ .1 .1 .0)) (now (a′ .1 .1 .1 .0))) marks
-    ∙ sym q
+pub reduce-determined : Determined (List ℤ × Float × List ℤ × List ℤ × List ℕ) Reduced Reduce
+    (λ _ a. (now (a .0), a .1 .0, now (a .1 .1 .0), now (a .1 .1 .1 .0), now (a .1 .1 .1 .1 .0)))
+    (λ _ r s. record { answer = r; out = now (s .1 .1 .0); scratch = now (s .1 .1 .1 .0); marks = now (s .1 .1 .1 .1 .0) })
+reduce-determined = same (λ x. reduceOf (x .0) (x .1) (x .2) (x .3) (x .4)) (λ _ a r s p. p)
 
 -- ---- a refusal changes no buffer
 

@@ -8,7 +8,7 @@ use native.Mathlib.Omega.{arith}
 use lib.Dec.{ltb}
 use lib.ListN.{length, length-append}
 use borrow.Author.Tests.{ltb-false}
-use Rattle.lines.specs.If.{if-cases}
+use Rattle.laws.proofs.If.{if-cases}
 use Rattle.lines.specs.Turns.{line}
 use Rattle.lines.specs.Runs.{Machine, linesOf, wholeLines, handed, answersTo, stepIn, after, started}
 use Rattle.lines.specs.declared.turns.State.{State}

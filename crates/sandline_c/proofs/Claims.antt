@@ -57,6 +57,7 @@ use Rattle.sandline_c.proofs.pictures.sandline_read_pbm.Reads.{Post as 
 use Rattle.sandline_c.proofs.pictures.sandline_write_pbm.Reads.{Post as Write-pbm}
 use Rattle.sandline_c.proofs.smoothing.sandline_find_corners.Reads.{Post as Find-corners}
 use Rattle.sandline_c.proofs.smoothing.sandline_subdivide_keep_corners.Reads.{Post as Subdivide-keep-corners}
+use Rattle.laws.proofs.Determined.{Determined, same}
 use Rattle.sandline_c.proofs.thinning.sandline_remove_staircase.Reads.{Post as Remove-staircase}
 use Rattle.sandline_c.proofs.thinning.sandline_limit_penalties.Reads.{Post as Limit-penalties}
 use Rattle.sandline_c.proofs.thinning.sandline_simplify.Reads.{Post as Simplify}
@@ -70,17 +71,6 @@ use Rattle.sandline_c.proofs.spiralling.sandline_spiral_advance as spir
 
 -- ---- each contract leaves no choice. `Post` is the contract itself, as Rattle reads it off the source, at arguments `a`, a result `r` and parameters at exit `s`.
 -- Where it reads the same of two calls' arguments, `given`, they tell the same: `told` is the result with the last contents of all that was lent.
-
-abbrev pub Determined : {K : Type 0} {A R S : K → Type 0} (X Y : Type 0) (Post : (κs : K) → A κs → R κs → S κs → Type 0) →
-    ((κs : K) → A κs → X) → ((κs : K) → R κs → S κs → Y) → Type 0
-Determined {K} {A} {R} {S} X Y Post given told =
-    (κs : K) (a a′ : A κs) (r r′ : R κs) (s s′ : S κs) → Post κs a r s → Post κs a′ r′ s′ → given κs a ≡ given κs a′ → told κs r s ≡ told κs r′ s′
-
--- a contract that says what is told by a function of what is given
-same : {K : Type 0} {A R S : K → Type 0} {X Y : Type 0} {Post : (κs : K) → A κs → R κs → S κs → Type 0} {given : (κs : K) → A κs → X}
-    {told : (κs : K) → R κs → S κs → Y} (f : X → Y) → ((κs : K) (a : A κs) (r : R κs) (s : S κs) → Post κs a r s → told κs r s ≡ f (given κs a)) →
-    Determined X Y Post given told
-same f is κs a a′ r r′ s s′ p q e = is κs a r s p ∙ ap f e ∙ sym (is κs a′ r′ s′ q)
 
 pub sqrt-determined : Determined Float Float Sqrt (λ _ a. a .0) (λ _ r s. r)
 sqrt-determined = same (λ x. rootOf binary64 x) (λ _ a r s p. p)

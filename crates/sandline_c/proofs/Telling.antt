@@ -15,7 +15,7 @@ use Rattle.point.specs.declared.refusal.Refusal.{Refusal}
 use Rattle.chart.specs.Pixels.{pixelAt}
 use Rattle.chart.specs.declared.Chart.{Chart}
 use Rattle.corners.specs.Calls.{Outcome as Flagged, findCornersOf}
-use Rattle.point.specs.Outcomes.{Outcome as Passed}
+use Rattle.point.specs.Outcomes.{Points as Passed}
 use Rattle.pbm.specs.Calls.{Outcome as Read, Written}
 use Rattle.pbm.specs.declared.Picture.{Picture}
 use Rattle.pbm.specs.declared.Picture.the-variants as Picture

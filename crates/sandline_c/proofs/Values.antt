@@ -49,6 +49,10 @@ module _ (a d : Start) (old : List ℤ) (e : a ≡ d) where
   unfolding started
   start-at p at x y = rw (← e, at, toZ-ofZ x, toZ-ofZ y)
 
+  pub start-nowhere : a ≡ Start.NoWay → record { number = 8; values = old } ≡ started d old
+  unfolding started
+  start-nowhere at = rw (← e, at)
+
   pub start-refused : (r : Refusal) (n : ℕ) → a ≡ Start.Refused r → n ≡ refusalNumber r → record { number = n; values = old } ≡ started d old
   unfolding started
   start-refused r n at p = rw (← e, at, p)
@@ -130,4 +134,4 @@ pub advance-told : (a : Advanced) (s : SpiralWalker) (o : AdvancedOutcome) (n : 
 unfolding advancedTo
 advance-told a s o n k last old e p = ap (beside s) p ∙ ap (λ (out : AdvancedOutcome). advancedTo out old) e
 
-pub ruleset values = (cells-told, start-at, start-refused, middle-at, middle-refused, measure-is, measure-refused, measure-told, measure-told-i32, area-is, area-refused, fresh-ready, fresh-refused, step-at, step-end, step-refused, needs)
+pub ruleset values = (cells-told, start-at, start-nowhere, start-refused, middle-at, middle-refused, measure-is, measure-refused, measure-told, measure-told-i32, area-is, area-refused, fresh-ready, fresh-refused, step-at, step-end, step-refused, needs)

@@ -16,7 +16,7 @@ use Rattle.util.specs.Answers.{intersectionNumber, intersectionValues, midPoint
 use Rattle.util.specs.declared.ratios.Intersection.{Intersection}
 use Rattle.util.specs.declared.Measure.{Measure}
 use Rattle.util.specs.declared.MidPoint.{MidPoint}
-use Rattle.point.specs.Outcomes.{Outcome as Passed}
+use Rattle.point.specs.Outcomes.{Points as Passed}
 use Rattle.pbm.specs.Answers.{pictureNumber}
 use Rattle.pbm.specs.Calls.{Outcome as Read, Written}
 use Rattle.pbm.specs.declared.Picture.{Picture}

@@ -63,6 +63,7 @@ pub extern "C" fn sandline_first_start(
             *start = [p.x, p.y];
             0
         }
+        Start::NoWay => 8,
         Start::Refused(refusal) => refusal.number(),
     }
 }

@@ -17,7 +17,8 @@ use Rattle.point.specs.declared.refusal.Answer.{Answer}
 use Rattle.point.specs.declared.PointI32.{PointI32}
 use Rattle.point.proofs.Flat.{length-flat, length-points, count-flat}
 use Rattle.point.proofs.Room.{places-shorter}
-use Rattle.point.specs.Outcomes.{Outcome, refusal, verdict, outcome}
+use Rattle.point.specs.declared.refusal.Answer.the-variants.{Refused}
+use Rattle.point.specs.Outcomes.{Points, refusal, verdict, outcome, handed, passed}
 use Rattle.point.specs.declared.refusal.Verdict.{Verdict}
 use Rattle.point.specs.declared.refusal.Verdict.the-variants.{Fine}
 use Rattle.point.proofs.Verdicts.{few, good, places, not-refused}
@@ -48,22 +49,25 @@ module _ (list : List ℤ) (clockwise : Bool) (v : Verdict) (room : ℕ) (says :
   module _ (answer : Answer) (old between : List ℤ) (first : record { answer = answer; out = between } ≡ staircaseOf list clockwise old)
       (long : length between ≡ 8192) where
     old-long : length old ≡ 8192
-    old-long = sym (remove-staircase-fits list old clockwise .long) ∙ ap (λ (o : Outcome). length (o .out)) (sym first) ∙ long
+    old-long = sym (remove-staircase-fits list old clockwise .long) ∙ ap (λ (o : Points). length (o .out)) (sym first) ∙ long
 
-    handed : record { answer = answer; out = between } ≡ outcome none left old
+    done : record { answer = answer; out = between } ≡ handed left old
     unfolding staircaseOf
-    handed = first ∙ ap (λ (n : ℕ). outcome (refusal list n) left old) old-long ∙ ap (λ o. outcome o left old) first-goes-on
+    done =
+        first
+        ∙ ap (λ (n : ℕ). outcome Refused (refusal list n) old (handed left old)) old-long
+        ∙ ap (λ o. outcome Refused o old (handed left old)) first-goes-on
 
     module _ (kept : ℕ) (e : kept ≡ countOf answer) where
       kept-is : kept ≡ length left
-      unfolding outcome
-      kept-is = e ∙ ap (λ (o : Outcome). countOf (o .answer)) handed
+      unfolding handed
+      kept-is = e ∙ ap (λ (o : Points). countOf (o .answer)) done
 
       pub kept-short : kept * 2 ≤ 8192
       kept-short = omega (arith, kept-is, short)
 
       pub middle : take (kept * 2 - 0) between ≡ flat left
-      unfolding outcome
+      unfolding handed
       middle =
           let f : kept * 2 - 0 ≡ length (flat left) = omega (arith, kept-is, length-flat left) in
-          ap (λ (o : Outcome). take (kept * 2 - 0) (o .out)) handed ∙ rw f (take-over-all (flat left) old)
+          ap (λ (o : Points). take (kept * 2 - 0) (o .out)) done ∙ rw f (take-over-all (flat left) old)

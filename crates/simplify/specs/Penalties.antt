@@ -12,7 +12,7 @@ use Rattle.point.specs.Points.{points}
 use Rattle.laws.specs.If.{if_then_else_}
 use Rattle.point.specs.declared.PointI32.{PointI32}
 use Rattle.sqrt.specs.Root.{rootOf}
-use Rattle.point.specs.Outcomes.{Outcome, refusal, outcome}
+use Rattle.point.specs.Outcomes.{Points, passed}
 
 -- the square of a whole number, as a double
 abbrev pub sq : ℤ → Float
@@ -86,6 +86,6 @@ unfolding limited pick
 limitPenalties ps = pick ps (limited ps)
 
 -- what `limit_penalties` answers to a list and a buffer, and what the buffer then holds
-unfoldable pub penaltiesOf : List ℤ → List ℤ → Outcome
-unfolding outcome limitPenalties points
-penaltiesOf list out = outcome (refusal list (length out)) (limitPenalties (points list)) out
+unfoldable pub penaltiesOf : List ℤ → List ℤ → Points
+unfolding passed limitPenalties points
+penaltiesOf list out = passed list (limitPenalties (points list)) out

@@ -5,14 +5,13 @@ use mathlib.Core.List.{List}
 use lib.IntN.{ℤ}
 use lib.ListN.{length}
 use Rattle.point.specs.Points.{points}
-use Rattle.point.specs.Outcomes.{refusal, outcome}
+use Rattle.point.specs.Outcomes.{Points, passed}
 use Rattle.simplify.specs.Staircase.{removeStaircase}
 use Rattle.simplify.specs.Penalties.{limitPenalties}
-pub use Rattle.point.specs.Outcomes.{Outcome}
 unfoldable pub use Rattle.simplify.specs.Staircase.{staircaseOf}
 unfoldable pub use Rattle.simplify.specs.Penalties.{penaltiesOf}
 
 -- the two passes one after the other, staircases first (paths.rs, simplify)
-unfoldable pub simplifyOf : List ℤ → Bool → List ℤ → Outcome
-unfolding outcome limitPenalties removeStaircase points
-simplifyOf list clockwise out = outcome (refusal list (length out)) (limitPenalties (removeStaircase clockwise (points list))) out
+unfoldable pub simplifyOf : List ℤ → Bool → List ℤ → Points
+unfolding passed limitPenalties removeStaircase points
+simplifyOf list clockwise out = passed list (limitPenalties (removeStaircase clockwise (points list))) out

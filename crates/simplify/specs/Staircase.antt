@@ -10,7 +10,7 @@ use Rattle.laws.specs.If.{if_then_else_}
 use Rattle.point.specs.declared.PointI32.{PointI32}
 use Rattle.point.specs.Points.{points}
 use Rattle.util.specs.Area.{signedArea}
-use Rattle.point.specs.Outcomes.{Outcome, refusal, outcome}
+use Rattle.point.specs.Outcomes.{Points, passed}
 
 -- the length of a step along the axes
 abbrev pub segmentLength : PointI32 → PointI32 → ℕ
@@ -41,6 +41,6 @@ removeStaircase clockwise [] = []
 removeStaircase clockwise (p ∷ ps) = p ∷ staircaseFrom clockwise p ps
 
 -- what `remove_staircase` answers to a list and a buffer, and what the buffer then holds
-unfoldable pub staircaseOf : List ℤ → Bool → List ℤ → Outcome
-unfolding outcome removeStaircase points
-staircaseOf list clockwise out = outcome (refusal list (length out)) (removeStaircase clockwise (points list)) out
+unfoldable pub staircaseOf : List ℤ → Bool → List ℤ → Points
+unfolding passed removeStaircase points
+staircaseOf list clockwise out = passed list (removeStaircase clockwise (points list)) out

@@ -26,30 +26,28 @@ use Rattle.smooth.specs.Round.{roundOf}
 use Rattle.smooth.specs.Calls.{Outcome, outcome, subdividedOf}
 use Rattle.smooth.proofs.Turns.{twice-at-most, flag-for-each}
 use Rattle.smooth.proofs.subdivide.subdivide_keep_corners.Reads.{Post as Subdivide}
+use Rattle.laws.proofs.Determined.{Determined, same}
+use Rattle.smooth.specs.declared.scheme.Entering.{Entering}
+use Rattle.point.specs.declared.PointF64.{PointF64}
+use Rattle.smooth.specs.declared.Subdivided.{Subdivided}
 
 -- ---- each contract leaves no choice: of equal arguments it allows one result. `Post` is the contract itself, as Rattle reads it off the source.
 
-pub skipped-determined : (κs : _) (a a′ : _) (r r′ : _) (s s′ : _) → Skipped κs a r s → Skipped κs a′ r′ s′ →
-    a .0 ≡ a′ .0 → a .1 .0 ≡ a′ .1 .0 → a .1 .1 .0 ≡ a′ .1 .1 .0 → a .1 .1 .1 .0 ≡ a′ .1 .1 .1 .0 → a .1 .1 .1 .1 .0 ≡ a′ .1 .1 .1 .1 .0 → r ≡ r′
-skipped-determined κs a a′ r r′ s s′ p q e f g h k =
-    let same : skippedBy (a .0) (a .1 .0) (a .1 .1 .0) (a .1 .1 .1 .0) (a .1 .1 .1 .1 .0) ≡ skippedBy (a′ .0) (a′ .1 .0) (a′ .1 .1 .0) (a′ .1 .1 .1 .0) (a′ .1 .1 .1 .1 .0) = rw (e, f, g, h, k) in
-    p ∙ same ∙ sym q
+pub skipped-determined : Determined (PointF64 × PointF64 × PointF64 × PointF64 × Float) Bool Skipped
+    (λ _ a. (a .0, a .1 .0, a .1 .1 .0, a .1 .1 .1 .0, a .1 .1 .1 .1 .0))
+    (λ _ r s. r)
+skipped-determined = same (λ x. skippedBy (x .0) (x .1) (x .2) (x .3) (x .4)) (λ _ a r s p. p)
 
-pub placed-determined : (κs : _) (a a′ : _) (r r′ : _) (s s′ : _) → Placed κs a r s → Placed κs a′ r′ s′ →
-    a .0 ≡ a′ .0 → a .1 .0 ≡ a′ .1 .0 → a .1 .1 .0 ≡ a′ .1 .1 .0 → a .1 .1 .1 .0 ≡ a′ .1 .1 .1 .0 → a .1 .1 .1 .1 .0 ≡ a′ .1 .1 .1 .1 .0 → r ≡ r′
-placed-determined κs a a′ r r′ s s′ p q e f g h k =
-    let same : placedBy (a .0) (a .1 .0) (a .1 .1 .0) (a .1 .1 .1 .0) (a .1 .1 .1 .1 .0) ≡ placedBy (a′ .0) (a′ .1 .0) (a′ .1 .1 .0) (a′ .1 .1 .1 .0) (a′ .1 .1 .1 .1 .0) = rw (e, f, g, h, k) in
-    p ∙ same ∙ sym q
+pub placed-determined : Determined (Settings × PointF64 × PointF64 × PointF64 × PointF64) Entering Placed
+    (λ _ a. (a .0, a .1 .0, a .1 .1 .0, a .1 .1 .1 .0, a .1 .1 .1 .1 .0))
+    (λ _ r s. r)
+placed-determined = same (λ x. placedBy (x .0) (x .1) (x .2) (x .3) (x .4)) (λ _ a r s p. p)
 
 -- the contract leaves no choice: of equal arguments it allows one result. `Post` is the contract itself, as Rattle reads it off the source.
-pub enter-behind-determined : (κs : _) (a a′ : _) (r r′ : _) (s s′ : _) → Enter-behind κs a r s → Enter-behind κs a′ r′ s′ →
-    now (a .0) ≡ now (a′ .0) → now (a .1 .0) ≡ now (a′ .1 .0) → a .1 .1 .0 ≡ a′ .1 .1 .0 → a .1 .1 .1 .0 ≡ a′ .1 .1 .1 .0 →
-    a .1 .1 .1 .1 .0 ≡ a′ .1 .1 .1 .1 .0 → r ≡ r′
-enter-behind-determined κs a a′ r r′ s s′ p q points corners settings closed i =
-    let same : enteredBehind (now (a .0)) (now (a .1 .0)) (a .1 .1 .0) (a .1 .1 .1 .0) (a .1 .1 .1 .1 .0)
-    ≡ enteredBehind (now (a′ .0)) (now (a′ .1 .0)) (a′ .1 .1 .0) (a′ .1 .1 .1 .0) (a′ .1 .1 .1 .1 .0)
-    = rw (points, corners, settings, closed, i) in
-    p ∙ same ∙ sym q
+pub enter-behind-determined : Determined (List Float × List ℕ × Settings × Bool × ℕ) Entering Enter-behind
+    (λ _ a. (now (a .0), now (a .1 .0), a .1 .1 .0, a .1 .1 .1 .0, a .1 .1 .1 .1 .0))
+    (λ _ r s. r)
+enter-behind-determined = same (λ x. enteredBehind (x .0) (x .1) (x .2) (x .3) (x .4)) (λ _ a r s p. p)
 
 -- the contract leaves no choice: of equal arguments it allows one verdict. `Post` is the contract itself, as Rattle reads it off the source.
 pub judge-determined : (κs : _) (a a′ : _) (r r′ : _) (s s′ : _) → Judge κs a r s → Judge κs a′ r′ s′ →
@@ -63,28 +61,22 @@ judge-determined κs a a′ r r′ s s′ p q points corners settings closed roo
 
 -- Each contract leaves no choice: of equal arguments it allows one result. `Post` is the contract itself, as Rattle reads it off the source.
 
-pub number-determined : (κs : _) (a a′ : _) (r r′ : _) (s s′ : _) → Number κs a r s → Number κs a′ r′ s′ → a .0 ≡ a′ .0 → r ≡ r′
-number-determined κs a a′ r r′ s s′ p q e = p ∙ ap subdividedNumber e ∙ sym q
+pub number-determined : Determined Subdivided ℕ Number (λ _ a. a .0) (λ _ r s. r)
+number-determined = same subdividedNumber (λ _ a r s p. p)
 
-pub count-determined : (κs : _) (a a′ : _) (r r′ : _) (s s′ : _) → Count κs a r s → Count κs a′ r′ s′ → a .0 ≡ a′ .0 → r ≡ r′
-count-determined κs a a′ r r′ s s′ p q e = p ∙ ap subdividedCount e ∙ sym q
+pub count-determined : Determined Subdivided ℕ Count (λ _ a. a .0) (λ _ r s. r)
+count-determined = same subdividedCount (λ _ a r s p. p)
 
-pub finished-determined : (κs : _) (a a′ : _) (r r′ : _) (s s′ : _) → Finished κs a r s → Finished κs a′ r′ s′ → a .0 ≡ a′ .0 → r ≡ r′
-finished-determined κs a a′ r r′ s s′ p q e = p ∙ ap subdividedFinished e ∙ sym q
+pub finished-determined : Determined Subdivided Bool Finished (λ _ a. a .0) (λ _ r s. r)
+finished-determined = same subdividedFinished (λ _ a r s p. p)
 
 -- ---- the contract leaves no choice: of equal arguments it allows one answer, and one last content of both buffers. `Post` is the contract
 -- itself, as Rattle reads it off the source, at arguments `a`, a result `r` and parameters at exit `s`.
 
-pub subdivide-determined : (κs : _) (a a′ : _) (r r′ : _) (s s′ : _) → Subdivide κs a r s → Subdivide κs a′ r′ s′ →
-    now (a .0) ≡ now (a′ .0) → now (a .1 .0) ≡ now (a′ .1 .0) → a .1 .1 .0 ≡ a′ .1 .1 .0 → a .1 .1 .1 .0 ≡ a′ .1 .1 .1 .0 →
-    now (a .1 .1 .1 .1 .0) ≡ now (a′ .1 .1 .1 .1 .0) → now (a .1 .1 .1 .1 .1 .0) ≡ now (a′ .1 .1 .1 .1 .1 .0) →
-    _≡_ {A = Outcome} (record { answer = r; out = now (s .1 .1 .1 .1 .0); flags = now (s .1 .1 .1 .1 .1 .0) })
-    (record { answer = r′; out = now (s′ .1 .1 .1 .1 .0); flags = now (s′ .1 .1 .1 .1 .1 .0) })
-subdivide-determined κs a a′ r r′ s s′ p q points corners settings closed out flags =
-    let same : subdividedOf (now (a .0)) (now (a .1 .0)) (a .1 .1 .0) (a .1 .1 .1 .0) (now (a .1 .1 .1 .1 .0)) (now (a .1 .1 .1 .1 .1 .0))
-    ≡ subdividedOf (now (a′ .0)) (now (a′ .1 .0)) (a′ .1 .1 .0) (a′ .1 .1 .1 .0) (now (a′ .1 .1 .1 .1 .0)) (now (a′ .1 .1 .1 .1 .1 .0))
-    = rw (points, corners, settings, closed, out, flags) in
-    p ∙ same ∙ sym q
+pub subdivide-determined : Determined (List Float × List ℕ × Settings × Bool × List Float × List ℕ) Outcome Subdivide
+    (λ _ a. (now (a .0), now (a .1 .0), a .1 .1 .0, a .1 .1 .1 .0, now (a .1 .1 .1 .1 .0), now (a .1 .1 .1 .1 .1 .0)))
+    (λ _ r s. record { answer = r; out = now (s .1 .1 .1 .1 .0); flags = now (s .1 .1 .1 .1 .1 .0) })
+subdivide-determined = same (λ x. subdividedOf (x .0) (x .1) (x .2) (x .3) (x .4) (x .5)) (λ _ a r s p. p)
 
 -- ---- a refusal changes no buffer
 

@@ -33,17 +33,20 @@ use Rattle.spiral.specs.declared.AdvancedOutcome.{AdvancedOutcome}
 use Rattle.spiral.proofs.turning.spiral.Reads.{Post as Spiral}
 use Rattle.spiral.proofs.turning.spiral_step.Reads.{Post as Spiral-step}
 use Rattle.spiral.proofs.turning.spiral_advance as spiral-advance
+use Rattle.laws.proofs.Determined.{Determined, same}
+use Rattle.spiral.specs.declared.Fresh.{Fresh}
+use Rattle.spiral.specs.declared.Turn.{Turn}
 
 -- ---- each contract leaves no choice: of equal arguments it allows one result. `Post` is the contract itself, as Rattle reads it off the source.
 
-pub fresh-number-determined : (κs : _) (a a′ : _) (r r′ : _) (s s′ : _) → Fresh-number κs a r s → Fresh-number κs a′ r′ s′ → a .0 ≡ a′ .0 → r ≡ r′
-fresh-number-determined κs a a′ r r′ s s′ p q e = p ∙ ap freshNumber e ∙ sym q
+pub fresh-number-determined : Determined Fresh ℕ Fresh-number (λ _ a. a .0) (λ _ r s. r)
+fresh-number-determined = same freshNumber (λ _ a r s p. p)
 
-pub turn-number-determined : (κs : _) (a a′ : _) (r r′ : _) (s s′ : _) → Turn-number κs a r s → Turn-number κs a′ r′ s′ → a .0 ≡ a′ .0 → r ≡ r′
-turn-number-determined κs a a′ r r′ s s′ p q e = p ∙ ap turnNumber e ∙ sym q
+pub turn-number-determined : Determined Turn ℕ Turn-number (λ _ a. a .0) (λ _ r s. r)
+turn-number-determined = same turnNumber (λ _ a r s p. p)
 
-pub advanced-number-determined : (κs : _) (a a′ : _) (r r′ : _) (s s′ : _) → Advanced-number κs a r s → Advanced-number κs a′ r′ s′ → a .0 ≡ a′ .0 → r ≡ r′
-advanced-number-determined κs a a′ r r′ s s′ p q e = p ∙ ap advancedNumber e ∙ sym q
+pub advanced-number-determined : Determined Advanced ℕ Advanced-number (λ _ a. a .0) (λ _ r s. r)
+advanced-number-determined = same advancedNumber (λ _ a r s p. p)
 
 -- ---- a size up to 512 has a spiral, and its fresh state is in range: the first step is not refused
 
@@ -95,11 +98,11 @@ advance-ended s e = rw e
 
 -- ---- each contract leaves no choice: of equal arguments it allows one result. `Post` is the contract itself, as Rattle reads it off the source.
 
-pub spiral-determined : (κs : _) (a a′ : _) (r r′ : _) (s s′ : _) → Spiral κs a r s → Spiral κs a′ r′ s′ → a .0 ≡ a′ .0 → r ≡ r′
-spiral-determined κs a a′ r r′ s s′ p q e = p ∙ ap freshSpiral e ∙ sym q
+pub spiral-determined : Determined ℕ Fresh Spiral (λ _ a. a .0) (λ _ r s. r)
+spiral-determined = same freshSpiral (λ _ a r s p. p)
 
-pub spiral-step-determined : (κs : _) (a a′ : _) (r r′ : _) (s s′ : _) → Spiral-step κs a r s → Spiral-step κs a′ r′ s′ → a .0 ≡ a′ .0 → r ≡ r′
-spiral-step-determined κs a a′ r r′ s s′ p q e = p ∙ ap spiralTurn e ∙ sym q
+pub spiral-step-determined : Determined SpiralWalker Turn Spiral-step (λ _ a. a .0) (λ _ r s. r)
+spiral-step-determined = same spiralTurn (λ _ a r s p. p)
 
 -- `spiral_advance` is proved by hand and has no `Post`. Its one clause, as Rattle reads it off the source, is this fact of the state at entry, the state at exit and the answer.
 abbrev pub Says : SpiralWalker → SpiralWalker → Advanced → Type 0

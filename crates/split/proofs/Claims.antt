@@ -21,25 +21,22 @@ use Rattle.split.proofs.Frames.{framed-many, framed-one}
 use Rattle.split.proofs.Trees.{span-size}
 use Rattle.split.proofs.marks.mark.Reads.{Post as Mark}
 use Rattle.split.proofs.numbers.number.Reads.{Post as Number}
+use Rattle.laws.proofs.Determined.{Determined, same}
+use Rattle.split.specs.declared.farthest.Far.{Far}
 
 -- the contract leaves no choice: of equal arguments it allows one answer. `Post` is the contract itself, as Rattle reads it off the source,
 -- at arguments `a`, a result `r` and parameters at exit `s`.
-pub farthest-determined : (κs : _) (a a′ : _) (r r′ : _) (s s′ : _) → Farthest κs a r s → Farthest κs a′ r′ s′
-    → now (a .0) ≡ now (a′ .0) → a .1 .0 ≡ a′ .1 .0 → a .1 .1 .0 ≡ a′ .1 .1 .0 → r ≡ r′
-farthest-determined κs a a′ r r′ s s′ p q points first last =
-    p ∙ ap₂ (λ (l : List ℤ) (f : ℕ). farthestIn l f (a .1 .1 .0)) points first ∙ ap (farthestIn (now (a′ .0)) (a′ .1 .0)) last ∙ sym q
+pub farthest-determined : Determined (List ℤ × ℕ × ℕ) Far Farthest (λ _ a. (now (a .0), a .1 .0, a .1 .1 .0)) (λ _ r s. r)
+farthest-determined = same (λ x. farthestIn (x .0) (x .1) (x .2)) (λ _ a r s p. p)
 
 -- ---- each contract leaves no choice: of equal arguments it allows one last content of the buffer. `Post` is the contract itself, as Rattle
 -- reads it off the source, at arguments `a`, a result `r` and parameters at exit `s`.
 
-pub mark-determined : (κs : _) (a a′ : _) (r r′ : _) (s s′ : _) → Mark κs a r s → Mark κs a′ r′ s′
-    → now (a .0) ≡ now (a′ .0) → a .1 .0 ≡ a′ .1 .0 → now (a .1 .1 .0) ≡ now (a′ .1 .1 .0) → now (s .1 .1 .0) ≡ now (s′ .1 .1 .0)
-mark-determined κs a a′ r r′ s s′ p q points tolerance marks =
-    p ∙ ap₂ (λ (x : List ℤ) (t : Float). markedOf x t (now (a .1 .1 .0))) points tolerance ∙ ap (markedOf (now (a′ .0)) (a′ .1 .0)) marks ∙ sym q
+pub mark-determined : Determined (List ℤ × Float × List ℕ) (List ℕ) Mark (λ _ a. (now (a .0), a .1 .0, now (a .1 .1 .0))) (λ _ r s. now (s .1 .1 .0))
+mark-determined = same (λ x. markedOf (x .0) (x .1) (x .2)) (λ _ a r s p. p)
 
-pub number-determined : (κs : _) (a a′ : _) (r r′ : _) (s s′ : _) → Number κs a r s → Number κs a′ r′ s′
-    → now (a .0) ≡ now (a′ .0) → now (a .1 .0) ≡ now (a′ .1 .0) → now (s .1 .0) ≡ now (s′ .1 .0)
-number-determined κs a a′ r r′ s s′ p q points out = p ∙ ap₂ numberedOf points out ∙ sym q
+pub number-determined : Determined (List ℤ × List Float) (List Float) Number (λ _ a. (now (a .0), now (a .1 .0))) (λ _ r s. now (s .1 .0))
+number-determined = same (λ x. numberedOf (x .0) (x .1)) (λ _ a r s p. p)
 
 -- ---- a mark and a number for each point
 

@@ -44,6 +44,7 @@ outline-counts c pixels = by (firstStart c pixels)
   where
     by : (s : Start) → walkedCount (outlineFrom s c pixels room .answer) * 2 ≤ 8190
     by (Start.At p) = walk-counts c pixels p true
+    by Start.NoWay = omega arith
     by (Start.Refused r) = omega arith
 
 pub outline-line-short : (c : Chart) (pixels : List ℕ) → length (line (walkReply (outlineOf c pixels room))) ≤ 32769

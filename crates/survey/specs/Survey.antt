@@ -15,6 +15,7 @@ use Rattle.chart.specs.declared.Start.the-variants as Start
 use Rattle.walker.specs.Answers.{walkedCount}
 use Rattle.walker.specs.Walk as Walk
 use Rattle.walker.specs.declared.Walked.the-variants as Walked
+use Rattle.point.specs.Outcomes.{Points}
 use Rattle.simplify.specs.Simplify as Simplify
 use Rattle.reduce.specs.Reduce.{numberedOf}
 use Rattle.frames.specs.Replies.{pointsText}
@@ -29,9 +30,10 @@ use Rattle.survey.specs.declared.step.Turn.the-variants.{Read, Write}
 
 -- ---- the three lines of a chart: kinds 01, 02 and 04 of "Frames", each of what the line before it hands on
 
--- The outline from a start, clockwise. A blank chart has no start: "first start of a blank chart" is refused, and so is the outline.
+-- The outline from a start, clockwise. A blank chart has no start, and so no way: 8 is for "first start of a blank chart" too.
 abbrev pub outlineFrom : Start → Chart → List ℕ → List ℤ → Walk.Outcome
 outlineFrom (Start.At p) c pixels out = Walk.walked c pixels p true out
+outlineFrom Start.NoWay c pixels out = record { answer = Walked.NoWay; out = out }
 outlineFrom (Start.Refused r) c pixels out = record { answer = Walked.Refused r; out = out }
 
 abbrev pub outlineOf : Chart → List ℕ → List ℤ → Walk.Outcome
@@ -41,7 +43,7 @@ outlineOf c pixels out = outlineFrom (firstStart c pixels) c pixels out
 abbrev pub outlined : Walk.Outcome → List ℤ
 outlined o = take (walkedCount (o .answer) * 2) (o .out)
 
-abbrev pub kept : Simplify.Outcome → List ℤ
+abbrev pub kept : Points → List ℤ
 kept o = take (countOf (o .answer) * 2) (o .out)
 
 -- the simplification of some points, and the numbers of what it keeps

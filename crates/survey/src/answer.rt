@@ -43,6 +43,7 @@ fn outline(chart: Chart, pixels: &[u8], out: &mut [i32]) -> Walked
 {
     match chart::first_start(chart, pixels) {
         Start::At(start) => walker::walk(chart, pixels, start, true, out),
+        Start::NoWay => Walked::NoWay,
         Start::Refused(refusal) => Walked::Refused(refusal),
     }
 }

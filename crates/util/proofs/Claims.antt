@@ -29,46 +29,54 @@ use Rattle.util.specs.declared.Signed.the-variants.{Area, Refused}
 use Rattle.util.proofs.Signed.number.Reads.{Post as Signed-number}
 use Rattle.util.proofs.area.cross.Reads.{Post as Crossed}
 use Rattle.util.proofs.area.signed_area.Reads.{Post as Signed-area}
+use Rattle.laws.proofs.Determined.{Determined, same}
+use mathlib.Core.Bool.{Bool}
+use Rattle.util.specs.declared.ratios.Intersection.{Intersection}
+use Rattle.util.specs.declared.Measure.{Measure}
+use Rattle.util.specs.declared.MidPoint.{MidPoint}
+use Rattle.util.specs.declared.Signed.{Signed}
+use Prim.Native.Nat.{ℕ}
+use lib.IntN.{ℤ}
 
 -- ---- each contract leaves no choice: of equal arguments it allows one result. `Post` is the contract itself, as Rattle reads it off the source.
 
-pub find-mid-point-determined : (κs : _) (a a′ : _) (r r′ : _) (s s′ : _) → Find-mid-point κs a r s → Find-mid-point κs a′ r′ s′ → a .0 ≡ a′ .0 → a .1 .0 ≡ a′ .1 .0 → r ≡ r′
-find-mid-point-determined κs a a′ r r′ s s′ p q e f = p ∙ ap₂ middleOf e f ∙ sym q
+pub find-mid-point-determined : Determined (PointF64 × PointF64) MidPoint Find-mid-point (λ _ a. (a .0, a .1 .0)) (λ _ r s. r)
+find-mid-point-determined = same (λ x. middleOf (x .0) (x .1)) (λ _ a r s p. p)
 
-pub middle-determined : (κs : _) (a a′ : _) (r r′ : _) (s s′ : _) → Middle κs a r s → Middle κs a′ r′ s′ → a .0 ≡ a′ .0 → a .1 .0 ≡ a′ .1 .0 → r ≡ r′
-middle-determined κs a a′ r r′ s s′ p q e f = p ∙ ap₂ middle e f ∙ sym q
+pub middle-determined : Determined (PointF64 × PointF64) PointF64 Middle (λ _ a. (a .0, a .1 .0)) (λ _ r s. r)
+middle-determined = same (λ x. middle (x .0) (x .1)) (λ _ a r s p. p)
 
-pub norm-determined : (κs : _) (a a′ : _) (r r′ : _) (s s′ : _) → Norm κs a r s → Norm κs a′ r′ s′ → a .0 ≡ a′ .0 → r ≡ r′
-norm-determined κs a a′ r r′ s s′ p q e = p ∙ ap normOf e ∙ sym q
+pub norm-determined : Determined PointF64 Measure Norm (λ _ a. a .0) (λ _ r s. r)
+norm-determined = same normOf (λ _ a r s p. p)
 
-pub norm-i32-determined : (κs : _) (a a′ : _) (r r′ : _) (s s′ : _) → Norm-i32 κs a r s → Norm-i32 κs a′ r′ s′ → a .0 ≡ a′ .0 → r ≡ r′
-norm-i32-determined κs a a′ r r′ s s′ p q e = p ∙ ap normOfI32 e ∙ sym q
+pub norm-i32-determined : Determined PointI32 Measure Norm-i32 (λ _ a. a .0) (λ _ r s. r)
+norm-i32-determined = same normOfI32 (λ _ a r s p. p)
 
-pub length-determined : (κs : _) (a a′ : _) (r r′ : _) (s s′ : _) → Length κs a r s → Length κs a′ r′ s′ → a .0 ≡ a′ .0 → a .1 .0 ≡ a′ .1 .0 → r ≡ r′
-length-determined κs a a′ r r′ s s′ p q e f = p ∙ ap₂ lengthOf e f ∙ sym q
+pub length-determined : Determined (Float × Float) Float Length (λ _ a. (a .0, a .1 .0)) (λ _ r s. r)
+length-determined = same (λ x. lengthOf (x .0) (x .1)) (λ _ a r s p. p)
 
-pub fine-determined : (κs : _) (a a′ : _) (r r′ : _) (s s′ : _) → Fine κs a r s → Fine κs a′ r′ s′ → a .0 ≡ a′ .0 → r ≡ r′
-fine-determined κs a a′ r r′ s s′ p q e = p ∙ ap fine e ∙ sym q
+pub fine-determined : Determined PointF64 Bool Fine (λ _ a. a .0) (λ _ r s. r)
+fine-determined = same fine (λ _ a r s p. p)
 
-pub mid-point-number-determined : (κs : _) (a a′ : _) (r r′ : _) (s s′ : _) → Mid-point-number κs a r s → Mid-point-number κs a′ r′ s′ → a .0 ≡ a′ .0 → r ≡ r′
-mid-point-number-determined κs a a′ r r′ s s′ p q e = p ∙ ap midPointNumber e ∙ sym q
+pub mid-point-number-determined : Determined MidPoint ℕ Mid-point-number (λ _ a. a .0) (λ _ r s. r)
+mid-point-number-determined = same midPointNumber (λ _ a r s p. p)
 
-pub measure-number-determined : (κs : _) (a a′ : _) (r r′ : _) (s s′ : _) → Measure-number κs a r s → Measure-number κs a′ r′ s′ → a .0 ≡ a′ .0 → r ≡ r′
-measure-number-determined κs a a′ r r′ s s′ p q e = p ∙ ap measureNumber e ∙ sym q
+pub measure-number-determined : Determined Measure ℕ Measure-number (λ _ a. a .0) (λ _ r s. r)
+measure-number-determined = same measureNumber (λ _ a r s p. p)
 
 -- ---- each contract leaves no choice: of equal arguments it allows one result. `Post` is the contract itself, as Rattle reads it off the source.
 
-pub intersection-number-determined : (κs : _) (a a′ : _) (r r′ : _) (s s′ : _) → Intersection-number κs a r s → Intersection-number κs a′ r′ s′ → a .0 ≡ a′ .0 → r ≡ r′
-intersection-number-determined κs a a′ r r′ s s′ p q e = p ∙ ap intersectionNumber e ∙ sym q
+pub intersection-number-determined : Determined Intersection ℕ Intersection-number (λ _ a. a .0) (λ _ r s. r)
+intersection-number-determined = same intersectionNumber (λ _ a r s p. p)
 
-pub outside-determined : (κs : _) (a a′ : _) (r r′ : _) (s s′ : _) → Outside κs a r s → Outside κs a′ r′ s′ → a .0 ≡ a′ .0 → r ≡ r′
-outside-determined κs a a′ r r′ s s′ p q e = p ∙ ap outsideOf e ∙ sym q
+pub outside-determined : Determined Intersection Bool Outside (λ _ a. a .0) (λ _ r s. r)
+outside-determined = same outsideOf (λ _ a r s p. p)
 
-pub inside-determined : (κs : _) (a a′ : _) (r r′ : _) (s s′ : _) → Inside κs a r s → Inside κs a′ r′ s′ → a .0 ≡ a′ .0 → r ≡ r′
-inside-determined κs a a′ r r′ s s′ p q e = p ∙ ap insideOf e ∙ sym q
+pub inside-determined : Determined Intersection Bool Inside (λ _ a. a .0) (λ _ r s. r)
+inside-determined = same insideOf (λ _ a r s p. p)
 
-pub coincide-determined : (κs : _) (a a′ : _) (r r′ : _) (s s′ : _) → Coincides κs a r s → Coincides κs a′ r′ s′ → a .0 ≡ a′ .0 → r ≡ r′
-coincide-determined κs a a′ r r′ s s′ p q e = p ∙ ap coincideOf e ∙ sym q
+pub coincide-determined : Determined Intersection Bool Coincides (λ _ a. a .0) (λ _ r s. r)
+coincide-determined = same coincideOf (λ _ a r s p. p)
 
 -- ---- "Asked of Parallel, all three say no"
 
@@ -84,28 +92,21 @@ nan-first p mub = refl
 
 -- ---- the contract leaves no choice: of equal arguments it allows one result. `Post` is the contract itself, as Rattle reads it off the source.
 
-pub find-intersection-determined : (κs : _) (a a′ : _) (r r′ : _) (s s′ : _) → Find-intersection κs a r s → Find-intersection κs a′ r′ s′ →
-    a .0 ≡ a′ .0 → a .1 .0 ≡ a′ .1 .0 → a .1 .1 .0 ≡ a′ .1 .1 .0 → a .1 .1 .1 .0 ≡ a′ .1 .1 .1 .0 → r ≡ r′
-find-intersection-determined κs a a′ r r′ s s′ p q e f g h =
-    let same : intersectionOf (a .0) (a .1 .0) (a .1 .1 .0) (a .1 .1 .1 .0) ≡ intersectionOf (a′ .0) (a′ .1 .0) (a′ .1 .1 .0) (a′ .1 .1 .1 .0) = rw (e, f, g, h) in
-    p ∙ same ∙ sym q
+pub find-intersection-determined : Determined (PointF64 × PointF64 × PointF64 × PointF64) Intersection Find-intersection
+    (λ _ a. (a .0, a .1 .0, a .1 .1 .0, a .1 .1 .1 .0))
+    (λ _ r s. r)
+find-intersection-determined = same (λ x. intersectionOf (x .0) (x .1) (x .2) (x .3)) (λ _ a r s p. p)
 
 -- ---- each contract leaves no choice: of equal arguments it allows one result. `Post` is the contract itself, as Rattle reads it off the source.
 
-pub cross-determined : (κs : _) (a a′ : _) (r r′ : _) (s s′ : _) → Crossed κs a r s → Crossed κs a′ r′ s′ →
-    a .0 ≡ a′ .0 → a .1 .0 ≡ a′ .1 .0 → a .1 .1 .0 ≡ a′ .1 .1 .0 → a .1 .1 .1 .0 ≡ a′ .1 .1 .1 .0 → r ≡ r′
-cross-determined κs a a′ r r′ s s′ p q e f g h =
-    let same : crossOf (a .0) (a .1 .0) (a .1 .1 .0) (a .1 .1 .1 .0) ≡ crossOf (a′ .0) (a′ .1 .0) (a′ .1 .1 .0) (a′ .1 .1 .1 .0) = rw (e, f, g, h) in
-    p ∙ same ∙ sym q
+pub cross-determined : Determined (ℤ × ℤ × ℤ × ℤ) ℤ Crossed (λ _ a. (a .0, a .1 .0, a .1 .1 .0, a .1 .1 .1 .0)) (λ _ r s. r)
+cross-determined = same (λ x. crossOf (x .0) (x .1) (x .2) (x .3)) (λ _ a r s p. p)
 
-pub signed-area-determined : (κs : _) (a a′ : _) (r r′ : _) (s s′ : _) → Signed-area κs a r s → Signed-area κs a′ r′ s′ →
-    a .0 ≡ a′ .0 → a .1 .0 ≡ a′ .1 .0 → a .1 .1 .0 ≡ a′ .1 .1 .0 → r ≡ r′
-signed-area-determined κs a a′ r r′ s s′ p q e f g =
-    let same : signedAreaOf (a .0) (a .1 .0) (a .1 .1 .0) ≡ signedAreaOf (a′ .0) (a′ .1 .0) (a′ .1 .1 .0) = rw (e, f, g) in
-    p ∙ same ∙ sym q
+pub signed-area-determined : Determined (PointI32 × PointI32 × PointI32) Signed Signed-area (λ _ a. (a .0, a .1 .0, a .1 .1 .0)) (λ _ r s. r)
+signed-area-determined = same (λ x. signedAreaOf (x .0) (x .1) (x .2)) (λ _ a r s p. p)
 
-pub signed-number-determined : (κs : _) (a a′ : _) (r r′ : _) (s s′ : _) → Signed-number κs a r s → Signed-number κs a′ r′ s′ → a .0 ≡ a′ .0 → r ≡ r′
-signed-number-determined κs a a′ r r′ s s′ p q e = p ∙ ap signedNumber e ∙ sym q
+pub signed-number-determined : Determined Signed ℕ Signed-number (λ _ a. a .0) (λ _ r s. r)
+signed-number-determined = same signedNumber (λ _ a r s p. p)
 
 -- ---- the signed area is refused exactly where a point is out of range
 

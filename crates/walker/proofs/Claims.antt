@@ -32,14 +32,15 @@ use Rattle.walker.proofs.Edges.{room-most, on-lattice}
 use Rattle.walker.proofs.Walked.number.Reads.{Post as Walked-number}
 use Rattle.walker.proofs.Walked.count.Reads.{Post as Walked-count}
 use Rattle.walker.proofs.course.walk.Reads.{Post as Walking}
+use Rattle.laws.proofs.Determined.{Determined, same}
 
 -- ---- each contract leaves no choice: of equal arguments it allows one result. `Post` is the contract itself, as Rattle reads it off the source.
 
-pub walked-number-determined : (κs : _) (a a′ : _) (r r′ : _) (s s′ : _) → Walked-number κs a r s → Walked-number κs a′ r′ s′ → a .0 ≡ a′ .0 → r ≡ r′
-walked-number-determined κs a a′ r r′ s s′ p q e = p ∙ ap walkedNumber e ∙ sym q
+pub walked-number-determined : Determined Walked ℕ Walked-number (λ _ a. a .0) (λ _ r s. r)
+walked-number-determined = same walkedNumber (λ _ a r s p. p)
 
-pub walked-count-determined : (κs : _) (a a′ : _) (r r′ : _) (s s′ : _) → Walked-count κs a r s → Walked-count κs a′ r′ s′ → a .0 ≡ a′ .0 → r ≡ r′
-walked-count-determined κs a a′ r r′ s s′ p q e = p ∙ ap walkedCount e ∙ sym q
+pub walked-count-determined : Determined Walked ℕ Walked-count (λ _ a. a .0) (λ _ r s. r)
+walked-count-determined = same walkedCount (λ _ a r s p. p)
 
 -- ---- Where a walk comes, and that it goes on: "the first exit not leading to `prev` or `prev_prev`" is there after every step, so that no
 -- walk but one that has not begun finds no way.

@@ -8,10 +8,10 @@ use native.Mathlib.Omega.{arith}
 use lib.IntN.{pos}
 use borrow.Author.Needs.{needs}
 use borrow.Author.Tests.{lt-ltb, le-ltb}
-use Rattle.point.specs.declared.refusal.Refusal.the-variants.{BadSize, NoWay}
+use Rattle.point.specs.declared.refusal.Refusal.the-variants.{BadSize}
 use Rattle.chart.specs.declared.Chart.{Chart}
 use Rattle.chart.specs.declared.Start.{Start}
-use Rattle.chart.specs.declared.Start.the-variants.{At, Refused}
+use Rattle.chart.specs.declared.Start.the-variants.{At, NoWay, Refused}
 use Rattle.chart.specs.Pixels.{Good, badChart}
 use Rattle.chart.specs.Start.{columnOf, firstInRow, firstInRows, firstStart}
 use Rattle.chart.proofs.Rows.{good}
@@ -42,7 +42,7 @@ module _ (c : Chart) (pixels : List ℕ) where
           let e : c .height - y ≡ suc (c .height - suc y) = omega arith in
           rw (is, ← says, f, so-far, e, ← row, lt-ltb x (c .width) k)
 
-    blank : (r : Bool) → r ≡ badChart c pixels → r ≡ false → c .height ≤ y → Refused NoWay ≡ firstStart c pixels
+    blank : (r : Bool) → r ≡ badChart c pixels → r ≡ false → c .height ≤ y → NoWay ≡ firstStart c pixels
     unfolding firstStart
     blank r says f k =
         let e : c .height - y ≡ 0 = omega arith in

@@ -13,4 +13,5 @@ sandline-first-start-spec =
     (λ c. search needs)  -- enum-known-refusal
     (λ c κs. search needs)  -- number-requires
     (λ c. search values)  -- returns
-    (λ c. search values))  -- returns-2
+    (λ c. search values)  -- returns-2
+    (λ c. search values))  -- returns-3

@@ -16,7 +16,7 @@ use Rattle.point.specs.declared.refusal.Answer.{Answer}
 use Rattle.point.specs.declared.refusal.Answer.the-variants.{Refused}
 use Rattle.point.specs.declared.refusal.Refusal.{Refusal}
 use Rattle.point.proofs.Flat.{points-flat}
-use Rattle.point.specs.Outcomes.{refusal, verdict, outcome}
+use Rattle.point.specs.Outcomes.{refusal, verdict, passed}
 use Rattle.point.specs.declared.refusal.Verdict.{Verdict}
 use Rattle.point.specs.declared.refusal.Verdict.the-variants.{Fine, Refused as Refused′}
 use Rattle.point.proofs.Verdicts.{fine-is, refused-outcome}
@@ -53,7 +53,7 @@ module _ (list out : List ℤ) (clockwise : Bool) (v : Verdict) (says : v ≡ ve
   done fine answer old between first kept e long r last second =
       let ps = removeStaircase clockwise (points list) in
       second
-      ∙ ap (λ (l : List ℤ). outcome (refusal l (length out)) (limitPenalties (points l)) out) (middle list clockwise v (length out) says fine answer old between first long kept e)
+      ∙ ap (λ (l : List ℤ). passed l (limitPenalties (points l)) out) (middle list clockwise v (length out) says fine answer old between first long kept e)
       ∙ rw (second-goes-on list clockwise v (length out) says fine, points-flat ps, fine-is v (refusal list (length out)) says fine)
 
 ruleset laws = (refused, fits, within, done, needs)

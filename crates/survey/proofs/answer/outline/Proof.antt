@@ -24,6 +24,9 @@ module _ (c : Chart) (pixels : List ℕ) (s : Start) (out : List ℤ) (is : s �
   walks : (p : PointI32) (o : Outcome) → s ≡ Start.At p → o ≡ walked c pixels p true out → o ≡ outlineOf c pixels out
   walks p o e w = w ∙ from (Start.At p) e
 
+  no-way : s ≡ Start.NoWay → record { answer = Walked.NoWay; out = out } ≡ outlineOf c pixels out
+  no-way e = from Start.NoWay e
+
   refuses : (r : Refusal) → s ≡ Start.Refused r → record { answer = Walked.Refused r; out = out } ≡ outlineOf c pixels out
   refuses r e = from (Start.Refused r) e
 
@@ -37,4 +40,5 @@ outline-spec =
     (λ c. search needs)  -- enum-known-refusal
     (λ c. search needs)  -- same-length
     (λ c. search walks)  -- returns
-    (λ c. search refuses))  -- returns-2
+    (λ c. search no-way)  -- returns-2
+    (λ c. search refuses))  -- returns-3

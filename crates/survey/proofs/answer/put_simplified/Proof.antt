@@ -9,7 +9,8 @@ use lib.ListN.{length, take}
 use borrow.Author.Needs.{needs}
 use Rattle.point.specs.Refusals.{numberOf, countOf}
 use Rattle.point.specs.declared.refusal.Answer.{Answer}
-use Rattle.simplify.specs.Simplify.{Outcome, simplifyOf}
+use Rattle.point.specs.Outcomes.{Points}
+use Rattle.simplify.specs.Simplify.{simplifyOf}
 use Rattle.reduce.specs.Reduce.{numberedOf}
 use Rattle.texts.specs.Put.{put}
 use Rattle.lines.specs.Turns.{line}
@@ -32,7 +33,7 @@ second-fits kind n j at m values out mid size h e same =
 
 -- both are those of the simplification
 module _ (list : List ℤ) (a : Answer) (last-kept : List ℤ) (k : ℕ) (is : record { answer = a; out = last-kept } ≡ simplifyOf list true room) (count : k ≡ countOf a) where
-  abbrev simple : Outcome
+  abbrev simple : Points
   simple = simplifyOf list true room
 
   both : (n at m r : ℕ) (out mid last : List ℕ) → n ≡ numberOf a → at + 65538 ≤ length out →
@@ -45,10 +46,10 @@ module _ (list : List ℤ) (a : Answer) (last-kept : List ℤ) (k : ℕ) (is : r
       put-then (line (simplifyReply simple)) (line (numbersReply (numberedOf (kept simple) numberRoom))) out mid last at m r (omega (arith, two-short list))
       (e
       ∙ ap₂ (λ (j : ℕ) (vs : List ℤ). put (line (pointsText 2 j vs)) out at) number points
-      ∙ ap (λ (o : Outcome). put (line (simplifyReply o)) out at) is)
+      ∙ ap (λ (o : Points). put (line (simplifyReply o)) out at) is)
       (f
       ∙ ap (λ (vs : List ℤ). put (line (numbersReply (numberedOf vs numberRoom))) mid m) points
-      ∙ ap (λ (o : Outcome). put (line (numbersReply (numberedOf (kept o) numberRoom))) mid m) is)
+      ∙ ap (λ (o : Points). put (line (numbersReply (numberedOf (kept o) numberRoom))) mid m) is)
 
 ruleset laws = (kept-fit, kept-part, part-short, second-fits, needs)
 
