@@ -10,6 +10,7 @@ sandline-first-start-spec =
     (tie.spec
     (λ c κs. search needs)  -- first-start-requires
     (λ c. search needs)  -- enum-known-p
+    (λ c. search values)  -- enum-told
     (λ c. search needs)  -- enum-known-refusal
     (λ c κs. search needs)  -- number-requires
     (λ c. search values)  -- returns

@@ -37,6 +37,7 @@ outline-spec =
     (λ c κs. search needs)  -- first-start-requires
     (λ c. search needs)  -- enum-known-start
     (λ c κs. search needs)  -- walk-requires
+    (λ c. search needs)  -- enum-told
     (λ c. search needs)  -- enum-known-refusal
     (λ c. search needs)  -- same-length
     (λ c. search walks)  -- returns
