@@ -1,4 +1,6 @@
--- What follows of the definition of the root, for its readers and for callers. Its words are those of `Root` and `Nearest`. Assumes nothing.
+-- The root is correctly rounded, as IEEE 754 asks: no value of the format is nearer to the exact root (`no-value-nearer`), and of the 2^64 patterns
+-- none stands for a nearer double than the answer of `sqrt_bits` does (`no-pattern-nearer`). The words are those of `Root` and `Nearest`. Assumes
+-- nothing.
 use Prim.Native.Nat.{ℕ, zero, suc, _+_, _-_, _*_, _/_, _%_, _^_, _≤_, _<_}
 use mathlib.Core.Bool.{Bool, true, false, true≢false}
 use mathlib.Core.Path.{_≡_, refl, sym, ap, subst₂, _∙_}
@@ -13,7 +15,7 @@ use lib.Pow.{pow-pos}
 use borrow.Author.Tests.{ltb-true, ltb-false, lt-ltb}
 use Rattle.sqrt.specs.Nearest.{inUnits, Farther, NotNearer}
 use Rattle.sqrt.proofs.nearest.Patterns.{reads-subnormal, reads-normal, no-root-of-negative}
-use Rattle.sqrt.specs.Root.{wholeRoot, inSquares, rootOf}
+use Rattle.sqrt.specs.Root.{wholeRoot, inSquares, rootOf, rootBits}
 use Rattle.sqrt.proofs.nearest.RootFits as RootFits
 use Rattle.sqrt.proofs.nearest.RootUnits.{farther-from-root, root-above-zero, square-root}
 use Rattle.sqrt.proofs.whole.WholeRoot as WholeRoot
@@ -81,10 +83,6 @@ root-not-negative f (suc m) e h =
     form (fin false m e) p = (m, e, refl)
 
 -- ---- the 2^64 patterns that `sqrt_bits` takes
-
--- The answer to a pattern: the pattern of the root of the double that it stands for.
-abbrev pub rootBits : ℕ → ℕ
-rootBits p = toBits binary64 (rootOf binary64 (ofBits binary64 p))
 
 -- The size of the double that a pattern stands for, in units of the smallest double, 2^-1074; it is taken as 0 for an infinity and a NaN.
 abbrev pub sizeOf : ℕ → ℕ
