@@ -12,7 +12,7 @@ use Rattle.chart.specs.declared.Chart.{Chart}
 use Rattle.walker.specs.Walk.{walked}
 use Rattle.simplify.specs.Simplify.{simplifyOf}
 use Rattle.reduce.specs.Reduce.{reduceOf, numberedOf}
-use Rattle.texts.specs.Put.{Outcome, put}
+use Rattle.texts.specs.Put.{Placed, put}
 use Rattle.requests.specs.Frame.{Request, requestIn}
 use Rattle.requests.specs.Handed.{handed}
 use Rattle.requests.specs.declared.Asked.{Asked}
@@ -34,7 +34,7 @@ module _ (f : List ℕ) (a : Asked) (to : List ℤ) (is : record { answer = a; t
   all-told = told f (replicate 8190 (pos 0)) (omega (arith, length-replicate 8190 (pos 0))) (record { answer = a; to = to }) is
 
   -- an answer put for what was asked for
-  asked : (b : Asked) (o : Outcome) (out : List ℕ) (at : ℕ) → a ≡ b → o ≡ put (replyTo (said b to f)) out at → o ≡ put (replyTo (requestIn f)) out at
+  asked : (b : Asked) (o : Placed) (out : List ℕ) (at : ℕ) → a ≡ b → o ≡ put (replyTo (said b to f)) out at → o ≡ put (replyTo (requestIn f)) out at
   asked b o out at e p =
       p ∙ ap (λ (q : Request). put (replyTo q) out at) (sym (all-told .asked ∙ ap (λ (b : Asked). said b to f) e))
 
@@ -47,7 +47,7 @@ module _ (f : List ℕ) (a : Asked) (to : List ℤ) (is : record { answer = a; t
     pub rows-begin : 10 ≤ length f
     rows-begin = omega (arith, all-told .behind, ap bytesBefore e)
 
-    pub a-walk : (o : Outcome) (out : List ℕ) (at : ℕ) → o ≡ put (walkReply (walked chart (take (length f - 10) (drop 10 f)) start cw room)) out at →
+    pub a-walk : (o : Placed) (out : List ℕ) (at : ℕ) → o ≡ put (walkReply (walked chart (take (length f - 10) (drop 10 f)) start cw room)) out at →
         o ≡ put (replyTo (requestIn f)) out at
     a-walk o out at p =
         asked (Asked.Walk cw chart start) o out at e
@@ -59,7 +59,7 @@ module _ (f : List ℕ) (a : Asked) (to : List ℤ) (is : record { answer = a; t
     pub simplify-few : length to ≡ 8190 → n ≤ length to
     simplify-few l = few (Asked.Simplify cw n) e l
 
-    pub a-simplify : (o : Outcome) (out : List ℕ) (at : ℕ) → o ≡ put (simplifyReply (simplifyOf (take (n - 0) to) cw room)) out at →
+    pub a-simplify : (o : Placed) (out : List ℕ) (at : ℕ) → o ≡ put (simplifyReply (simplifyOf (take (n - 0) to) cw room)) out at →
         o ≡ put (replyTo (requestIn f)) out at
     a-simplify o out at p =
         asked (Asked.Simplify cw n) o out at e
@@ -71,7 +71,7 @@ module _ (f : List ℕ) (a : Asked) (to : List ℤ) (is : record { answer = a; t
     pub reduce-few : length to ≡ 8190 → n ≤ length to
     reduce-few l = few (Asked.Reduce t n) e l
 
-    pub a-reduce : (o : Outcome) (out : List ℕ) (at : ℕ) →
+    pub a-reduce : (o : Placed) (out : List ℕ) (at : ℕ) →
         o ≡ put (reduceReply (reduceOf (take (n - 0) to) (div binary64 (ofInt binary64 (pos t)) (ofBits binary64 0x4030000000000000)) room room marks)) out at →
         o ≡ put (replyTo (requestIn f)) out at
     a-reduce o out at p =
@@ -87,11 +87,11 @@ module _ (f : List ℕ) (a : Asked) (to : List ℤ) (is : record { answer = a; t
     pub numbers-few : length to ≡ 8190 → n ≤ length to
     numbers-few l = few (Asked.Numbers n) e l
 
-    pub a-numbers : (o : Outcome) (out : List ℕ) (at : ℕ) → o ≡ put (numbersReply (numberedOf (take (n - 0) to) numberRoom)) out at →
+    pub a-numbers : (o : Placed) (out : List ℕ) (at : ℕ) → o ≡ put (numbersReply (numberedOf (take (n - 0) to) numberRoom)) out at →
         o ≡ put (replyTo (requestIn f)) out at
     a-numbers o out at p =
         asked (Asked.Numbers n) o out at e
         (unfold replyTo in p ∙ ap (λ (k : ℕ). put (numbersReply (numberedOf (take k to) numberRoom)) out at) (from-start n))
 
-  pub no-frame-is : (o : Outcome) (out : List ℕ) (at : ℕ) → a ≡ Asked.NoFrame → o ≡ put badReply out at → o ≡ put (replyTo (requestIn f)) out at
+  pub no-frame-is : (o : Placed) (out : List ℕ) (at : ℕ) → a ≡ Asked.NoFrame → o ≡ put badReply out at → o ≡ put (replyTo (requestIn f)) out at
   no-frame-is o out at e p = asked Asked.NoFrame o out at e (unfold replyTo in p)

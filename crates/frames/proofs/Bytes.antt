@@ -15,7 +15,7 @@ use Rattle.words.specs.Into.{readInto}
 use Rattle.words.specs.Pairs.{bytesOf}
 use Rattle.words.specs.declared.bytes.Read.{Read}
 use Rattle.words.specs.declared.bytes.Read.the-variants as Read
-use Rattle.texts.specs.Put.{Outcome, put}
+use Rattle.texts.specs.Put.{Placed, put}
 use Rattle.requests.specs.Frame.{requestIn}
 use Rattle.frames.specs.Answer.{badReply, replyTo, bytesReply, answerTo}
 
@@ -73,14 +73,14 @@ module _ (line to : List ℕ) (a : Read) (is : record { answer = a; to = to } �
     pub in-array : length to ≡ 16384 → n ≤ length to
     in-array l = omega (arith, read .0)
 
-    pub a-frame : (o : Outcome) (out : List ℕ) (at : ℕ) → o ≡ put (replyTo (requestIn (take (n - 0) to))) out at → o ≡ put (answerTo line) out at
+    pub a-frame : (o : Placed) (out : List ℕ) (at : ℕ) → o ≡ put (replyTo (requestIn (take (n - 0) to))) out at → o ≡ put (answerTo line) out at
     a-frame o out at p =
         let m : n - 0 ≡ n = omega arith in
         p
         ∙ ap (λ (k : ℕ). put (replyTo (requestIn (take k to))) out at) m
         ∙ ap (λ (t : List ℕ). put t out at) (sym (unfold answerTo in ap bytesReply (read .1)))
 
-  pub no-bytes : (o : Outcome) (out : List ℕ) (at : ℕ) → a ≡ Read.Not → o ≡ put badReply out at → o ≡ put (answerTo line) out at
+  pub no-bytes : (o : Placed) (out : List ℕ) (at : ℕ) → a ≡ Read.Not → o ≡ put badReply out at → o ≡ put (answerTo line) out at
   no-bytes o out at e p =
       p
       ∙ ap (λ (t : List ℕ). put t out at)

@@ -9,7 +9,7 @@ use lib.IntN.{ℤ}
 use lib.Ieee.{Float}
 use mathlib.Core.Option.{Option, some, none}
 use native.Mathlib.Omega.{arith}
-use Rattle.texts.specs.Put.{Outcome, put}
+use Rattle.texts.specs.Put.{Placed, put}
 use Rattle.frames.specs.Replies.{pointsText, numbersText}
 use Rattle.frames.proofs.replies.put_points.Reads as put_points
 use Rattle.frames.proofs.replies.put_numbers.Reads as put_numbers
@@ -38,14 +38,14 @@ use Rattle.frames.proofs.line.answer.Reads.{Post as Answer}
 pub put-points-determined : (κs : _) (a a′ : _) (r r′ : ℕ) (s s′ : _) → put_points.Post κs a r s → put_points.Post κs a′ r′ s′ →
     a .0 ≡ a′ .0 → a .1 .0 ≡ a′ .1 .0 → now (a .1 .1 .0) ≡ now (a′ .1 .1 .0) → now (a .1 .1 .1 .0) ≡ now (a′ .1 .1 .1 .0) →
     a .1 .1 .1 .1 .0 ≡ a′ .1 .1 .1 .1 .0 →
-    _≡_ {A = Outcome} (record { next = r; out = now (s .1 .1 .1 .0) }) (record { next = r′; out = now (s′ .1 .1 .1 .0) })
+    _≡_ {A = Placed} (record { answer = r; out = now (s .1 .1 .1 .0) }) (record { answer = r′; out = now (s′ .1 .1 .1 .0) })
 put-points-determined κs a a′ r r′ s s′ p q kind number values out at =
     p ∙ (λ i. put (pointsText (kind i) (number i) (values i)) (out i) (at i)) ∙ sym q
 
 pub put-numbers-determined : (κs : _) (a a′ : _) (r r′ : ℕ) (s s′ : _) → put_numbers.Post κs a r s → put_numbers.Post κs a′ r′ s′ →
     a .0 ≡ a′ .0 → a .1 .0 ≡ a′ .1 .0 → now (a .1 .1 .0) ≡ now (a′ .1 .1 .0) → now (a .1 .1 .1 .0) ≡ now (a′ .1 .1 .1 .0) →
     a .1 .1 .1 .1 .0 ≡ a′ .1 .1 .1 .1 .0 →
-    _≡_ {A = Outcome} (record { next = r; out = now (s .1 .1 .1 .0) }) (record { next = r′; out = now (s′ .1 .1 .1 .0) })
+    _≡_ {A = Placed} (record { answer = r; out = now (s .1 .1 .1 .0) }) (record { answer = r′; out = now (s′ .1 .1 .1 .0) })
 put-numbers-determined κs a a′ r r′ s s′ p q kind number values out at =
     p ∙ (λ i. put (numbersText (kind i) (number i) (values i)) (out i) (at i)) ∙ sym q
 
@@ -54,7 +54,7 @@ put-numbers-determined κs a a′ r r′ s s′ p q kind number values out at =
 pub put-walk-determined : (κs : _) (a a′ : _) (r r′ : ℕ) (s s′ : _) → Put-walk κs a r s → Put-walk κs a′ r′ s′ →
     a .0 ≡ a′ .0 → now (a .1 .0) ≡ now (a′ .1 .0) → a .1 .1 .0 ≡ a′ .1 .1 .0 → a .1 .1 .1 .0 ≡ a′ .1 .1 .1 .0 →
     now (a .1 .1 .1 .1 .0) ≡ now (a′ .1 .1 .1 .1 .0) → a .1 .1 .1 .1 .1 .0 ≡ a′ .1 .1 .1 .1 .1 .0 →
-    _≡_ {A = Outcome} (record { next = r; out = now (s .1 .1 .1 .1 .0) }) (record { next = r′; out = now (s′ .1 .1 .1 .1 .0) })
+    _≡_ {A = Placed} (record { answer = r; out = now (s .1 .1 .1 .1 .0) }) (record { answer = r′; out = now (s′ .1 .1 .1 .1 .0) })
 put-walk-determined κs a a′ r r′ s s′ p q chart pixels start clockwise out at =
     p ∙ (λ i. put (walkReply (walked (chart i) (pixels i) (start i) (clockwise i) room)) (out i) (at i)) ∙ sym q
 
@@ -68,7 +68,7 @@ walk-short chart pixels start cw =
 -- `Post` is the contract itself, as Rattle reads it off the source, at arguments `a`, a result `r` and parameters at exit `s`.
 pub put-simplified-determined : (κs : _) (a a′ : _) (r r′ : ℕ) (s s′ : _) → Put-simplified κs a r s → Put-simplified κs a′ r′ s′ →
     now (a .0) ≡ now (a′ .0) → a .1 .0 ≡ a′ .1 .0 → now (a .1 .1 .0) ≡ now (a′ .1 .1 .0) → a .1 .1 .1 .0 ≡ a′ .1 .1 .1 .0 →
-    _≡_ {A = Outcome} (record { next = r; out = now (s .1 .1 .0) }) (record { next = r′; out = now (s′ .1 .1 .0) })
+    _≡_ {A = Placed} (record { answer = r; out = now (s .1 .1 .0) }) (record { answer = r′; out = now (s′ .1 .1 .0) })
 put-simplified-determined κs a a′ r r′ s s′ p q list clockwise out at =
     p ∙ (λ i. put (simplifyReply (simplifyOf (list i) (clockwise i) room)) (out i) (at i)) ∙ sym q
 
@@ -82,13 +82,13 @@ simplified-short list cw =
 -- `Post` is the contract itself, as Rattle reads it off the source, at arguments `a`, a result `r` and parameters at exit `s`.
 pub put-reduced-determined : (κs : _) (a a′ : _) (r r′ : ℕ) (s s′ : _) → Put-reduced κs a r s → Put-reduced κs a′ r′ s′ →
     now (a .0) ≡ now (a′ .0) → a .1 .0 ≡ a′ .1 .0 → now (a .1 .1 .0) ≡ now (a′ .1 .1 .0) → a .1 .1 .1 .0 ≡ a′ .1 .1 .1 .0 →
-    _≡_ {A = Outcome} (record { next = r; out = now (s .1 .1 .0) }) (record { next = r′; out = now (s′ .1 .1 .0) })
+    _≡_ {A = Placed} (record { answer = r; out = now (s .1 .1 .0) }) (record { answer = r′; out = now (s′ .1 .1 .0) })
 put-reduced-determined κs a a′ r r′ s s′ p q list tolerance out at =
     p ∙ (λ i. put (reduceReply (reduceOf (list i) (tolerance i) room room marks)) (out i) (at i)) ∙ sym q
 
 pub put-numbered-determined : (κs : _) (a a′ : _) (r r′ : ℕ) (s s′ : _) → Put-numbered κs a r s → Put-numbered κs a′ r′ s′ →
     now (a .0) ≡ now (a′ .0) → now (a .1 .0) ≡ now (a′ .1 .0) → a .1 .1 .0 ≡ a′ .1 .1 .0 →
-    _≡_ {A = Outcome} (record { next = r; out = now (s .1 .0) }) (record { next = r′; out = now (s′ .1 .0) })
+    _≡_ {A = Placed} (record { answer = r; out = now (s .1 .0) }) (record { answer = r′; out = now (s′ .1 .0) })
 put-numbered-determined κs a a′ r r′ s s′ p q list out at =
     p ∙ (λ i. put (numbersReply (numberedOf (list i) numberRoom)) (out i) (at i)) ∙ sym q
 
@@ -107,7 +107,7 @@ numbered-short list =
 -- `Post` is the contract itself, as Rattle reads it off the source, at arguments `a`, a result `r` and parameters at exit `s`.
 pub answer-determined : (κs : _) (a a′ : _) (r r′ : ℕ) (s s′ : _) → Answer κs a r s → Answer κs a′ r′ s′ →
     now (a .0) ≡ now (a′ .0) → now (a .1 .0) ≡ now (a′ .1 .0) → a .1 .1 .0 ≡ a′ .1 .1 .0 →
-    _≡_ {A = Outcome} (record { next = r; out = now (s .1 .0) }) (record { next = r′; out = now (s′ .1 .0) })
+    _≡_ {A = Placed} (record { answer = r; out = now (s .1 .0) }) (record { answer = r′; out = now (s′ .1 .0) })
 answer-determined κs a a′ r r′ s s′ p q line out at = p ∙ (λ i. put (answerTo (line i)) (out i) (at i)) ∙ sym q
 
 -- ---- "Frames both ways hold at most 16,384 bytes": an answer has at most 32,768 digits.

@@ -50,8 +50,8 @@ module _ (c : Chart) (pixels : List ℕ) (start : PointI32) (cw : Bool) where
     walk-part j h e = omega (arith, at-most-two k j few-walked h)
 
     pub walk-put : (n at r : ℕ) (out last : List ℕ) → n ≡ walkedNumber a →
-        record { next = r; out = last } ≡ put (pointsText 1 n (take (k * 2 - 0) values)) out at →
-        record { next = r; out = last } ≡ put (walkReply (walked c pixels start cw room)) out at
+        record { answer = r; out = last } ≡ put (pointsText 1 n (take (k * 2 - 0) values)) out at →
+        record { answer = r; out = last } ≡ put (walkReply (walked c pixels start cw room)) out at
     walk-put n at r out last number e =
         e ∙ points-part 1 n (walkedNumber a) k (walkedCount a) at values out number count ∙ ap (λ (o : WalkOutcome). put (walkReply o) out at) is
 
@@ -70,8 +70,8 @@ module _ (list : List ℤ) (cw : Bool) where
     kept-part j h e = omega (arith, at-most-two k j few-kept h)
 
     pub kept-put : (n at r : ℕ) (out last : List ℕ) → n ≡ numberOf a →
-        record { next = r; out = last } ≡ put (pointsText 2 n (take (k * 2 - 0) kept)) out at →
-        record { next = r; out = last } ≡ put (simplifyReply (simplifyOf list cw room)) out at
+        record { answer = r; out = last } ≡ put (pointsText 2 n (take (k * 2 - 0) kept)) out at →
+        record { answer = r; out = last } ≡ put (simplifyReply (simplifyOf list cw room)) out at
     kept-put n at r out last number e =
         e ∙ points-part 2 n (numberOf a) k (countOf a) at kept out number count ∙ ap (λ (o : Points). put (simplifyReply o) out at) is
 
@@ -92,8 +92,8 @@ module _ (list : List ℤ) (tolerance : Float) (a : Answer) (kept scratch : List
   reduce-part l j h e = omega (arith, at-most-two k j few-reduced h)
 
   pub reduce-put : (n at r : ℕ) (out last : List ℕ) → n ≡ numberOf a →
-      record { next = r; out = last } ≡ put (pointsText 3 n (take (k * 2 - 0) kept)) out at →
-      record { next = r; out = last } ≡ put (reduceReply (reduceOf list tolerance room room marks)) out at
+      record { answer = r; out = last } ≡ put (pointsText 3 n (take (k * 2 - 0) kept)) out at →
+      record { answer = r; out = last } ≡ put (reduceReply (reduceOf list tolerance room room marks)) out at
   reduce-put n at r out last number e =
       e ∙ points-part 3 n (numberOf a) k (countOf a) at kept out number count ∙ ap (λ (o : Reduced). put (reduceReply o) out at) is
 
@@ -117,8 +117,8 @@ module _ (list : List ℤ) (a : Answer) (old numbers : List Float) (k : ℕ)
 module _ (list : List ℤ) (a : Answer) (numbers : List Float) (k : ℕ)
     (is : record { answer = a; out = numbers } ≡ numberedOf list (replicate 2047 (ofBits binary64 0))) (count : k ≡ countOf a) where
   pub numbers-put : (n at r : ℕ) (out last : List ℕ) → n ≡ numberOf a →
-      record { next = r; out = last } ≡ put (numbersText 4 n (take (k - 0) numbers)) out at →
-      record { next = r; out = last } ≡ put (numbersReply (numberedOf list numberRoom)) out at
+      record { answer = r; out = last } ≡ put (numbersText 4 n (take (k - 0) numbers)) out at →
+      record { answer = r; out = last } ≡ put (numbersReply (numberedOf list numberRoom)) out at
   numbers-put n at r out last number e =
       e
       ∙ numbers-part 4 n (numberOf a) k (countOf a) at numbers out number count

@@ -22,7 +22,7 @@ pub fn put_walk(
     out: &mut [u8],
     at: usize,
 ) -> usize
-    ensures { λ r. ⌜ record { next = r; out = now (out .exit) }
+    ensures { λ r. ⌜ record { answer = r; out = now (out .exit) }
         ≡ put (walkReply (walked chart (now (pixels .entry)) start clockwise room)) (now (out .entry)) at ⌝ }
 {
     let mut values = [0i32; 8190];
@@ -33,7 +33,7 @@ pub fn put_walk(
 // Simplifies, puts the points that are kept at a place of `out`, and answers the place behind them;
 // where they do not fit, the place itself.
 pub fn put_simplified(list: &[i32], clockwise: bool, out: &mut [u8], at: usize) -> usize
-    ensures { λ r. ⌜ record { next = r; out = now (out .exit) }
+    ensures { λ r. ⌜ record { answer = r; out = now (out .exit) }
         ≡ put (simplifyReply (simplifyOf (now (list .entry)) clockwise room)) (now (out .entry)) at ⌝ }
 {
     let mut kept = [0i32; 8190];
@@ -44,7 +44,7 @@ pub fn put_simplified(list: &[i32], clockwise: bool, out: &mut [u8], at: usize) 
 // Reduces, puts the points that are kept at a place of `out`, and answers the place behind them; where
 // they do not fit, the place itself.
 pub fn put_reduced(list: &[i32], tolerance: f64, out: &mut [u8], at: usize) -> usize
-    ensures { λ r. ⌜ record { next = r; out = now (out .exit) }
+    ensures { λ r. ⌜ record { answer = r; out = now (out .exit) }
         ≡ put (reduceReply (reduceOf (now (list .entry)) tolerance room room marks)) (now (out .entry)) at ⌝ }
 {
     let mut kept = [0i32; 8190];
@@ -57,7 +57,7 @@ pub fn put_reduced(list: &[i32], tolerance: f64, out: &mut [u8], at: usize) -> u
 // Numbers the points, puts the numbers at a place of `out`, and answers the place behind them; where they
 // do not fit, the place itself.
 pub fn put_numbered(list: &[i32], out: &mut [u8], at: usize) -> usize
-    ensures { λ r. ⌜ record { next = r; out = now (out .exit) }
+    ensures { λ r. ⌜ record { answer = r; out = now (out .exit) }
         ≡ put (numbersReply (numberedOf (now (list .entry)) numberRoom)) (now (out .entry)) at ⌝ }
 {
     let mut numbers = [0.0f64; 2047];

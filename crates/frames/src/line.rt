@@ -15,7 +15,7 @@ const VALUES: usize = 8190;
 // Puts the answer to a line at a place of `out`, with no end of line, and answers the place behind it.
 // Where it does not fit, nothing is written and the place itself is answered.
 pub fn answer(line: &[u8], out: &mut [u8], at: usize) -> usize
-    ensures { λ r. ⌜ record { next = r; out = now (out .exit) } ≡ put (answerTo (now (line .entry))) (now (out .entry)) at ⌝ }
+    ensures { λ r. ⌜ record { answer = r; out = now (out .exit) } ≡ put (answerTo (now (line .entry))) (now (out .entry)) at ⌝ }
 {
     let mut frame = [0u8; MOST];
     match words::read_bytes(line, &mut frame) {
@@ -26,7 +26,7 @@ pub fn answer(line: &[u8], out: &mut [u8], at: usize) -> usize
 
 // Puts the answer to a frame.
 fn reply(frame: &[u8], out: &mut [u8], at: usize) -> usize
-    ensures { λ r. ⌜ record { next = r; out = now (out .exit) }
+    ensures { λ r. ⌜ record { answer = r; out = now (out .exit) }
         ≡ put (replyTo (requestIn (now (frame .entry)))) (now (out .entry)) at ⌝ }
 {
     let mut points = [0i32; VALUES];
@@ -45,7 +45,7 @@ fn reply(frame: &[u8], out: &mut [u8], at: usize) -> usize
 
 // The answer to what is no frame.
 fn bad(out: &mut [u8], at: usize) -> usize
-    ensures { λ r. ⌜ record { next = r; out = now (out .exit) } ≡ put badReply (now (out .entry)) at ⌝ }
+    ensures { λ r. ⌜ record { answer = r; out = now (out .exit) } ≡ put badReply (now (out .entry)) at ⌝ }
 {
     texts::put_bytes(b"ff0b0000", out, at)
 }

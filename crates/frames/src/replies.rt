@@ -14,7 +14,7 @@ const HEAD: usize = 8;
 
 // An answer of points: x, y, x, y.
 pub fn put_points(kind: u8, number: u8, values: &[i32], out: &mut [u8], at: usize) -> usize
-    ensures { λ r. ⌜ record { next = r; out = now (out .exit) }
+    ensures { λ r. ⌜ record { answer = r; out = now (out .exit) }
         ≡ put (pointsText kind number (now (values .entry))) (now (out .entry)) at ⌝ }
 {
     if !fits(values.len(), 4, out.len(), at) {
@@ -31,7 +31,7 @@ pub fn put_points(kind: u8, number: u8, values: &[i32], out: &mut [u8], at: usiz
 
 // An answer of numbers.
 pub fn put_numbers(kind: u8, number: u8, values: &[f64], out: &mut [u8], at: usize) -> usize
-    ensures { λ r. ⌜ record { next = r; out = now (out .exit) }
+    ensures { λ r. ⌜ record { answer = r; out = now (out .exit) }
         ≡ put (numbersText kind number (now (values .entry))) (now (out .entry)) at ⌝ }
 {
     if !fits(values.len(), 16, out.len(), at) {
@@ -74,7 +74,7 @@ fn fits(n: usize, each: usize, len: usize, at: usize) -> bool
 // The digits before the values, for which there is room.
 fn put_head(kind: u8, number: u8, count: usize, out: &mut [u8], at: usize) -> usize
     requires { ⌜ at + 8 ≤ length (now out) ⌝ }
-    ensures { λ r. ⌜ record { next = r; out = now (out .exit) } ≡ put (head kind number count) (now (out .entry)) at ⌝ }
+    ensures { λ r. ⌜ record { answer = r; out = now (out .exit) } ≡ put (head kind number count) (now (out .entry)) at ⌝ }
 {
     let behind_kind = texts::put_hex(kind as u64 + 128, 2, out, at);
     let behind_number = texts::put_hex(number as u64, 2, out, behind_kind);

@@ -65,7 +65,7 @@ module _ (answer : List ℕ → List ℕ) where
   abbrev pub stepped : Turn → List ℕ → List ℕ → Step
   stepped (Line from to s) input output =
       let reply = put (line (answer (take (to - from) (drop from input)))) output (s .waiting) in
-      record { turn = Line from to (answeredState s (reply .next)); input = input; output = reply .out }
+      record { turn = Line from to (answeredState s (reply .answer)); input = input; output = reply .out }
   stepped (Write bytes s) input output = record { turn = Write bytes s; input = input; output = output }
   stepped (Read at s) input output = record { turn = Read at s; input = input; output = output }
   stepped End input output = record { turn = End; input = input; output = output }

@@ -15,7 +15,7 @@ use Rattle.laws.proofs.Lists.{length-over}
 use Rattle.chart.specs.Pixels.{side, rowBytes, cell}
 use Rattle.chart.specs.declared.Chart.{Chart}
 use Rattle.texts.specs.Text.{glyphOf, decimalDigits, naturalText}
-use Rattle.texts.specs.Put.{Outcome, put}
+use Rattle.texts.specs.Put.{Placed, put}
 use Rattle.texts.proofs.Pieces.{put-fits, put-then, second-fits}
 use Rattle.pbm.specs.Bytes.{chartBytes}
 use Rattle.pbm.specs.Calls.{headText, pictureText}
@@ -65,19 +65,19 @@ module _ (c : Chart) (pixels : List ℕ) where
 -- ---- its parts
 
 -- three bytes stored at the start are put there
-three-put : (a b c : ℕ) (out : List ℕ) → 3 ≤ length out → record { next = 3; out = set (set (set out 0 a) 1 b) 2 c } ≡ put (a ∷ b ∷ c ∷ []) out 0
-three-put a b c out h = ap (λ (l : List ℕ). record { next = 3; out = l }) (sets-eq (a ∷ b ∷ c ∷ []) out 0 h) ∙ sym (put-fits (a ∷ b ∷ c ∷ []) out 0 h)
+three-put : (a b c : ℕ) (out : List ℕ) → 3 ≤ length out → record { answer = 3; out = set (set (set out 0 a) 1 b) 2 c } ≡ put (a ∷ b ∷ c ∷ []) out 0
+three-put a b c out h = ap (λ (l : List ℕ). record { answer = 3; out = l }) (sets-eq (a ∷ b ∷ c ∷ []) out 0 h) ∙ sym (put-fits (a ∷ b ∷ c ∷ []) out 0 h)
 
 -- a text put at the start stands over it
-put-over : (text out last : List ℕ) (r : ℕ) → length text ≤ length out → record { next = r; out = last } ≡ put text out 0 →
+put-over : (text out last : List ℕ) (r : ℕ) → length text ≤ length out → record { answer = r; out = last } ≡ put text out 0 →
     (r ≡ length text) × (last ≡ over text out)
 unfolding over
 put-over text out last r h e =
     let z : 0 + length text ≡ length text = omega arith in
     let room : 0 + length text ≤ length out = omega arith in
-    let f : _≡_ {A = Outcome} (record { next = r; out = last }) (record { next = length text; out = text ++ drop (length text) out }) =
+    let f : _≡_ {A = Placed} (record { answer = r; out = last }) (record { answer = length text; out = text ++ drop (length text) out }) =
     e ∙ put-fits text out 0 room ∙ rw z in
-    (ap (λ (o : Outcome). o .next) f, ap (λ (o : Outcome). o .out) f)
+    (ap (λ (o : Placed). o .answer) f, ap (λ (o : Placed). o .out) f)
 
 module _ (c : Chart) (out : List ℕ) (room : length (headText c) ≤ length out) where
   abbrev first : List ℕ
@@ -103,16 +103,16 @@ module _ (c : Chart) (out : List ℕ) (room : length (headText c) ≤ length out
   pub first-room : 3 + length first ≤ length magic
   first-room = simp length-set (omega (arith, all-length))
 
-  module _ (mid : List ℕ) (m : ℕ) (e : record { next = m; out = mid } ≡ put first magic 3) where
-    both-put : record { next = m; out = mid } ≡ put (80 ∷ 52 ∷ 10 ∷ first) out 0
+  module _ (mid : List ℕ) (m : ℕ) (e : record { answer = m; out = mid } ≡ put first magic 3) where
+    both-put : record { answer = m; out = mid } ≡ put (80 ∷ 52 ∷ 10 ∷ first) out 0
     both-put = put-then (80 ∷ 52 ∷ 10 ∷ []) first out magic mid 0 3 m (omega (arith, all-length)) (three-put 80 52 10 out magic-room) e
 
     pub second-room : m + length second ≤ length mid
     second-room =
-        subst (λ (o : Outcome). o .next + length second ≤ length (o .out)) (sym both-put)
+        subst (λ (o : Placed). o .answer + length second ≤ length (o .out)) (sym both-put)
         (second-fits (80 ∷ 52 ∷ 10 ∷ first) second out 0 (omega (arith, ap length whole)))
 
-    module _ (last : List ℕ) (r : ℕ) (f : record { next = r; out = last } ≡ put second mid m) where
+    module _ (last : List ℕ) (r : ℕ) (f : record { answer = r; out = last } ≡ put second mid m) where
       head-put : (r ≡ length (headText c)) × (last ≡ over (headText c) out)
       head-put =
           put-over (headText c) out last r room

@@ -56,7 +56,7 @@ fn put_head(chart: Chart, out: &mut [u8]) -> usize
 // Puts a size and the byte behind it.
 fn put_size(size: usize, behind: u8, out: &mut [u8], at: usize) -> usize
     requires { ⌜ at + length (naturalText size ++ (behind ∷ [])) ≤ length (now out) ⌝ }
-    ensures { λ r. ⌜ record { next = r; out = now (out .exit) } ≡ put (naturalText size ++ (behind ∷ [])) (now (out .entry)) at ⌝ }
+    ensures { λ r. ⌜ record { answer = r; out = now (out .exit) } ≡ put (naturalText size ++ (behind ∷ [])) (now (out .entry)) at ⌝ }
 {
     let end = texts::put_natural(size as u64, out, at);
     texts::put_byte(behind, out, end)

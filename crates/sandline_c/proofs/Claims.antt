@@ -32,7 +32,7 @@ use Rattle.smooth.specs.Calls.{subdividedOf}
 use Rattle.spiral.specs.Spiral.{freshSpiral, advanced}
 use Rattle.spiral.specs.declared.SpiralWalker.{SpiralWalker}
 use Rattle.sqrt.specs.Root.{rootOf}
-use Rattle.texts.specs.Put.{put, Outcome as Text}
+use Rattle.texts.specs.Put.{put, Placed}
 use Rattle.util.specs.Area.{signedAreaOf}
 use Rattle.walker.specs.Walk.{walked as walkOf}
 use Rattle.sandline_c.specs.Handed.{Counted, Valued, passed, points, numbered, flagged, marked, reduced, walked, written, pictured, subdivided, crossing, started, celled, signed, midway, measured, begun, advancedTo}
@@ -114,7 +114,7 @@ first-start-determined = same (λ x. started (firstStart (chart (x .0) (x .1)) (
 pub walk-determined : Determined (ℕ × ℕ × List ℕ × ℤ × ℤ × Bool × List ℤ) (Counted (List ℤ)) Walk (λ _ a. (a .0, a .1 .0, now (a .1 .1 .0), a .1 .1 .1 .0, a .1 .1 .1 .1 .0, a .1 .1 .1 .1 .1 .0, now (a .1 .1 .1 .1 .1 .1 .0))) (λ _ r s. record { number = r; count = now (s .1 .1 .1 .1 .1 .1 .1 .0); buffers = now (s .1 .1 .1 .1 .1 .1 .0) })
 walk-determined = same (λ x. walked (walkOf (chart (x .0) (x .1)) (x .2) (point (x .3) (x .4)) (x .5) (x .6))) (λ _ a r s p. p)
 
-pub answer-determined : Determined (List ℕ × List ℕ × ℕ) Text Answer (λ _ a. (now (a .0), now (a .1 .0), a .1 .1 .0)) (λ _ r s. record { next = r; out = now (s .1 .0) })
+pub answer-determined : Determined (List ℕ × List ℕ × ℕ) Placed Answer (λ _ a. (now (a .0), now (a .1 .0), a .1 .1 .0)) (λ _ r s. record { answer = r; out = now (s .1 .0) })
 answer-determined = same (λ x. put (answerTo (x .0)) (x .1) (x .2)) (λ _ a r s p. p)
 
 pub read-pbm-determined : Determined (List ℕ × List ℕ × List ℕ × List ℕ) (Counted (List ℕ × List ℕ × List ℕ)) Read-pbm (λ _ a. (now (a .0), now (a .1 .0), now (a .1 .1 .0), now (a .1 .1 .1 .0))) (λ _ r s. record { number = r; count = now (s .1 .1 .1 .1 .0); buffers = (now (s .1 .0), now (s .1 .1 .0), now (s .1 .1 .1 .0)) })

@@ -96,7 +96,7 @@ pub extern "C" fn sandline_walk(
 // where it does not fit, the place itself.
 #[no_mangle]
 pub extern "C" fn sandline_answer(line: &[u8], out: &mut [u8], at: usize) -> usize
-    ensures { λ r. ⌜ record { next = r; out = now (out .exit) } ≡ put (answerTo (now (line .entry))) (now (out .entry)) at ⌝ }
+    ensures { λ r. ⌜ record { answer = r; out = now (out .exit) } ≡ put (answerTo (now (line .entry))) (now (out .entry)) at ⌝ }
 {
     frames::answer(line, out, at)
 }

@@ -1,4 +1,5 @@
-// Numbers as text, written to a buffer that the caller lends.
+// Bytes and numbers as text, put at a place of a buffer that the caller lends: for the frames, the
+// pictures and the programs, which write their answers by it.
 //
 // Nothing fails: what does not fit is not written.
 mod decimal;

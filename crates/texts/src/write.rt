@@ -11,7 +11,7 @@ use crate::glyphs::glyph;
 
 // One byte.
 pub fn put_byte(b: u8, out: &mut [u8], at: usize) -> usize
-    ensures { λ r. ⌜ record { next = r; out = now (out .exit) } ≡ put (b ∷ []) (now (out .entry)) at ⌝ }
+    ensures { λ r. ⌜ record { answer = r; out = now (out .exit) } ≡ put (b ∷ []) (now (out .entry)) at ⌝ }
 {
     if at < out.len() {
         out[at] = b;
@@ -22,7 +22,7 @@ pub fn put_byte(b: u8, out: &mut [u8], at: usize) -> usize
 
 // The bytes of a text.
 pub fn put_bytes(text: &[u8], out: &mut [u8], at: usize) -> usize
-    ensures { λ r. ⌜ record { next = r; out = now (out .exit) } ≡ put (now (text .entry)) (now (out .entry)) at ⌝ }
+    ensures { λ r. ⌜ record { answer = r; out = now (out .exit) } ≡ put (now (text .entry)) (now (out .entry)) at ⌝ }
 {
     if has_room(text.len(), out.len(), at) {
         copy(text, out, at);
@@ -33,7 +33,7 @@ pub fn put_bytes(text: &[u8], out: &mut [u8], at: usize) -> usize
 
 // The lowest `digits` hexadecimal digits of `n`, in lower case, 16 of them at most.
 pub fn put_hex(n: u64, digits: usize, out: &mut [u8], at: usize) -> usize
-    ensures { λ r. ⌜ record { next = r; out = now (out .exit) } ≡ put (hexText digits n) (now (out .entry)) at ⌝ }
+    ensures { λ r. ⌜ record { answer = r; out = now (out .exit) } ≡ put (hexText digits n) (now (out .entry)) at ⌝ }
 {
     if digits < 16 {
         return put_digits(n, 16, digits, out, at);
@@ -65,7 +65,7 @@ fn copy(text: &[u8], out: &mut [u8], at: usize)
 // The lowest `k` digits of `n` in a base.
 pub(crate) fn put_digits(n: u64, base: u64, k: usize, out: &mut [u8], at: usize) -> usize
     requires { ⌜ (0 < base) × (base ≤ 16) ⌝ }
-    ensures { λ r. ⌜ record { next = r; out = now (out .exit) } ≡ put (lowDigits base k n) (now (out .entry)) at ⌝ }
+    ensures { λ r. ⌜ record { answer = r; out = now (out .exit) } ≡ put (lowDigits base k n) (now (out .entry)) at ⌝ }
 {
     if has_room(k, out.len(), at) {
         spell(n, base, k, out, at);

@@ -9,7 +9,7 @@ use lib.Seq.{paste, take-at, drop-paste, drop-at, getD-take, length-take-le}
 use borrow.Author.Needs.{needs}
 use Rattle.chart.specs.Pixels.{rowBytes, cell}
 use Rattle.chart.specs.declared.Chart.{Chart}
-use Rattle.texts.specs.Put.{put, Outcome}
+use Rattle.texts.specs.Put.{put, Placed}
 use Rattle.texts.proofs.Pieces.{put-fits}
 use Rattle.pbm.specs.Bytes.{chartBytes}
 use Rattle.pbm.proofs.Bytes.{rows-alike}
@@ -18,7 +18,7 @@ use Rattle.pbm.proofs.raw.copy_rows.Tie as tie
 
 module _ (c : Chart) (pixels old : List ℕ) (at bytes : ℕ) (size : bytes ≡ rowBytes (c .width) * c .height)
     (there : rowBytes (c .width) * c .height ≤ length pixels) (room : at + rowBytes (c .width) * c .height ≤ length old) (next : ℕ) (out : List ℕ)
-    (e : record { next = next; out = out } ≡ put (take (bytes - 0) (drop 0 pixels)) old at) where
+    (e : record { answer = next; out = out } ≡ put (take (bytes - 0) (drop 0 pixels)) old at) where
   abbrev n : ℕ
   n = rowBytes (c .width) * c .height
 
@@ -31,7 +31,7 @@ module _ (c : Chart) (pixels old : List ℕ) (at bytes : ℕ) (size : bytes ≡ 
   all-copied : out ≡ paste old at pixels n
   all-copied =
       let f : bytes - 0 ≡ n = omega arith in
-      ap (λ (o : Outcome). o .out) e ∙ ap (λ (k : ℕ). put (take k pixels) old at .out) f ∙ put-all
+      ap (λ (o : Placed). o .out) e ∙ ap (λ (k : ℕ). put (take k pixels) old at .out) f ∙ put-all
 
   -- as `out` then stands: what stood before, the bytes that were copied, and what stood behind
   parts : out ≡ take at old ++ (take n pixels ++ drop (at + n) old)

@@ -8,7 +8,7 @@ use lib.ListN.{length, take, drop}
 use denote.Enum.Declared.{tagOf}
 use types.Run.{OneOf}
 use borrow.Author.Needs.{needs}
-use Rattle.texts.specs.Put.{Outcome, put}
+use Rattle.texts.specs.Put.{Placed, put}
 use Rattle.lines.specs.Turns.{Next, answeredState, line, nextTurn, stepped, stepOf}
 use Rattle.lines.specs.declared.turns.State.{State}
 use Rattle.lines.specs.declared.turns.Turn.{Turn}
@@ -25,10 +25,10 @@ module _ (s : State) (most : ℕ) (input in′ output : List ℕ) (t : Turn) (e 
   of-turn = ap (λ (n : Next). stepped answerTo (n .turn) (n .input) output) e
 
   answered : (from to : ℕ) (next q : State) (r : ℕ) (last : List ℕ) → t ≡ Line from to next →
-      record { next = r; out = last } ≡ put (line (answerTo (take (to - from) (drop from in′)))) output (next .waiting) → q ≡ answeredState next r →
+      record { answer = r; out = last } ≡ put (line (answerTo (take (to - from) (drop from in′)))) output (next .waiting) → q ≡ answeredState next r →
       record { turn = Line from to q; input = in′; output = last } ≡ stepOf answerTo s most input output
   answered from to next q r last k p a =
-      rw a (ap (λ (o : Outcome). record { turn = Line from to (answeredState next (o .next)); input = in′; output = o .out }) p)
+      rw a (ap (λ (o : Placed). record { turn = Line from to (answeredState next (o .answer)); input = in′; output = o .out }) p)
       ∙ ap (λ (u : Turn). stepped answerTo u in′ output) (sym k)
       ∙ of-turn
 

@@ -26,7 +26,7 @@ use Rattle.survey.proofs.answer.put_lines.Tie as tie
 
 -- behind the first line there is room for the other two
 others-fit : (kind n j m : ℕ) (values : List ℤ) (out mid : List ℕ) → length values ≡ 8190 → 98307 ≤ length out →
-    record { next = m; out = mid } ≡ put (line (pointsText kind n (take j values))) out 0 → length mid ≡ length out → m + 65538 ≤ length mid
+    record { answer = m; out = mid } ≡ put (line (pointsText kind n (take j values))) out 0 → length mid ≡ length out → m + 65538 ≤ length mid
 others-fit kind n j m values out mid size h e same =
     let short : length (line (pointsText kind n (take j values))) ≤ 32769 = points-line-short kind n (take j values) (part-short j values size) in
     omega (arith, place-behind (line (pointsText kind n (take j values))) out mid 0 m (omega arith) e)
@@ -46,9 +46,9 @@ module _ (c : Chart) (pixels : List ℕ) (a : Walked) (values : List ℤ) (k : �
 
   -- they are those of the outline
   three : (n m r : ℕ) (out mid last : List ℕ) → n ≡ walkedNumber a → 98307 ≤ length out →
-      record { next = m; out = mid } ≡ put (line (pointsText 1 n (take (k * 2 - 0) values))) out 0 →
-      record { next = r; out = last } ≡ put (twoLines (take (k * 2 - 0) values)) mid m →
-      record { next = r; out = last } ≡ put (threeLines c pixels) out 0
+      record { answer = m; out = mid } ≡ put (line (pointsText 1 n (take (k * 2 - 0) values))) out 0 →
+      record { answer = r; out = last } ≡ put (twoLines (take (k * 2 - 0) values)) mid m →
+      record { answer = r; out = last } ≡ put (threeLines c pixels) out 0
   unfolding threeLines
   three n m r out mid last number h e f =
       let points = same-points k (walkedCount a) values count in

@@ -16,8 +16,8 @@ use Rattle.survey.proofs.answer.put_numbers.Statement.{statement}
 use Rattle.survey.proofs.answer.put_numbers.Tie as tie
 
 whole : (list : List ℤ) (out mid last : List ℕ) (at m r : ℕ) → at + 32769 ≤ length out →
-    record { next = m; out = mid } ≡ put (numbersReply (numberedOf list numberRoom)) out at → record { next = r; out = last } ≡ put (10 ∷ []) mid m →
-    record { next = r; out = last } ≡ put (line (numbersReply (numberedOf list numberRoom))) out at
+    record { answer = m; out = mid } ≡ put (numbersReply (numberedOf list numberRoom)) out at → record { answer = r; out = last } ≡ put (10 ∷ []) mid m →
+    record { answer = r; out = last } ≡ put (line (numbersReply (numberedOf list numberRoom))) out at
 whole list out mid last at m r h e f = line-put (numbersReply (numberedOf list numberRoom)) out mid last at m r (numbered-short list) h e f
 
 pub put-numbers-spec : {M : Type 1} → statement M

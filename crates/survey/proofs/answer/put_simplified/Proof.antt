@@ -26,7 +26,7 @@ use Rattle.survey.proofs.answer.put_simplified.Tie as tie
 
 -- behind the first line there is room for the second
 second-fits : (kind n j at m : ℕ) (values : List ℤ) (out mid : List ℕ) → length values ≡ 8190 → at + 65538 ≤ length out →
-    record { next = m; out = mid } ≡ put (line (pointsText kind n (take j values))) out at → length mid ≡ length out → m + 32769 ≤ length mid
+    record { answer = m; out = mid } ≡ put (line (pointsText kind n (take j values))) out at → length mid ≡ length out → m + 32769 ≤ length mid
 second-fits kind n j at m values out mid size h e same =
     let short : length (line (pointsText kind n (take j values))) ≤ 32769 = points-line-short kind n (take j values) (part-short j values size) in
     omega (arith, place-behind (line (pointsText kind n (take j values))) out mid at m (omega arith) e)
@@ -37,9 +37,9 @@ module _ (list : List ℤ) (a : Answer) (last-kept : List ℤ) (k : ℕ) (is : r
   simple = simplifyOf list true room
 
   both : (n at m r : ℕ) (out mid last : List ℕ) → n ≡ numberOf a → at + 65538 ≤ length out →
-      record { next = m; out = mid } ≡ put (line (pointsText 2 n (take (k * 2 - 0) last-kept))) out at →
-      record { next = r; out = last } ≡ put (line (numbersReply (numberedOf (take (k * 2 - 0) last-kept) numberRoom))) mid m →
-      record { next = r; out = last } ≡ put (twoLines list) out at
+      record { answer = m; out = mid } ≡ put (line (pointsText 2 n (take (k * 2 - 0) last-kept))) out at →
+      record { answer = r; out = last } ≡ put (line (numbersReply (numberedOf (take (k * 2 - 0) last-kept) numberRoom))) mid m →
+      record { answer = r; out = last } ≡ put (twoLines list) out at
   unfolding twoLines
   both n at m r out mid last number h e f =
       let points = same-points k (countOf a) last-kept count in

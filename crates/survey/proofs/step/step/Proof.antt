@@ -23,7 +23,7 @@ use Rattle.survey.proofs.step.step.Statement.{statement}
 use Rattle.survey.proofs.step.step.Tie as tie
 
 -- a text put at the start stands over what was there
-put-over : (text out : List ℕ) → length text ≤ length out → put text out 0 ≡ record { next = length text; out = over text out }
+put-over : (text out : List ℕ) → length text ≤ length out → put text out 0 ≡ record { answer = length text; out = over text out }
 unfolding over
 put-over text out h =
     let z : 0 + length text ≡ length text = omega arith in
@@ -43,16 +43,16 @@ module _ (file : List ℕ) (more : Bool) (output : List ℕ) (p : Picture) (pixe
   text-is q e = ap (λ (k : Picture). textOf k pixels) (sym e) ∙ ap (λ (o : Outcome). textOf (o .answer) (o .pixels)) is
 
   answered : (q : Picture) (r : ℕ) (last : List ℕ) → p ≡ q → more && not (isRead q) ≡ false → 98307 ≤ length output →
-      record { next = r; out = last } ≡ put (textOf q pixels) output 0 → record { turn = Write r; output = last } ≡ stepOf file more output
+      record { answer = r; out = last } ≡ put (textOf q pixels) output 0 → record { turn = Write r; output = last } ≡ stepOf file more output
   unfolding stepOf
   answered q r last e ends h put-there =
       let short = survey-short file in
-      let there : _≡_ {A = Put.Outcome} (record { next = r; out = last }) (record { next = length (surveyText file); out = over (surveyText file) output }) =
+      let there : _≡_ {A = Placed} (record { answer = r; out = last }) (record { answer = length (surveyText file); out = over (surveyText file) output }) =
       put-there ∙ ap (λ (t : List ℕ). put t output 0) (text-is q e) ∙ put-over (surveyText file) output (omega arith) in
-      rw (whole-is q e, ends) (ap (λ (o : Put.Outcome). record { turn = Write (o .next); output = o .out }) there)
+      rw (whole-is q e, ends) (ap (λ (o : Placed). record { turn = Write (o .answer); output = o .out }) there)
 
   read : (c : Chart) (n r : ℕ) (last : List ℕ) → p ≡ Picture.Read c n → 98307 ≤ length output →
-      record { next = r; out = last } ≡ put (threeLines c pixels) output 0 → record { turn = Write r; output = last } ≡ stepOf file more output
+      record { answer = r; out = last } ≡ put (threeLines c pixels) output 0 → record { turn = Write r; output = last } ≡ stepOf file more output
   read c n r last e h put-there = answered (Picture.Read c n) r last e (nothing-waits more) h put-there
 
   waits : (r : Refusal) → p ≡ Picture.Refused r → more ≡ true → record { turn = Read; output = output } ≡ stepOf file more output
@@ -60,7 +60,7 @@ module _ (file : List ℕ) (more : Bool) (output : List ℕ) (p : Picture) (pixe
   waits r e m = rw (whole-is (Picture.Refused r) e, m)
 
   refused : (r : Refusal) (n : ℕ) (last : List ℕ) → p ≡ Picture.Refused r → more ≡ false → 98307 ≤ length output →
-      record { next = n; out = last } ≡ put (refusedLine (refusalNumber r)) output 0 → record { turn = Write n; output = last } ≡ stepOf file more output
+      record { answer = n; out = last } ≡ put (refusedLine (refusalNumber r)) output 0 → record { turn = Write n; output = last } ≡ stepOf file more output
   refused r n last e m h put-there = answered (Picture.Refused r) n last e (rw m) h put-there
 
 returns : tie.Need-returns

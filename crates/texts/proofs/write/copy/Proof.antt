@@ -1,4 +1,4 @@
--- `texts::copy` meets its contract. The loop's invariant: the first `i` bytes are put. Assumes nothing.
+-- `copy` meets its contract. The loop's invariant: the first `i` bytes are put. Assumes nothing.
 use Prim.Native.Nat.{ℕ, _+_, _-_, _≤_, _<_}
 use mathlib.Core.List.{List, _++_}
 use mathlib.Core.Path.{_≡_}

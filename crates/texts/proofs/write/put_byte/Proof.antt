@@ -1,4 +1,4 @@
--- `texts::put_byte` meets its contract. Assumes nothing.
+-- `put_byte` meets its contract. Assumes nothing.
 use Prim.Native.Nat.{ℕ, _+_, _≤_, _<_}
 use mathlib.Core.List.{List, [], _∷_}
 use mathlib.Core.Path.{_≡_}
@@ -13,11 +13,11 @@ use Rattle.texts.proofs.write.put_byte.Statement.{statement}
 use Rattle.texts.proofs.write.put_byte.Tie as tie
 
 module _ (b at : ℕ) (out : List ℕ) where
-  fits : at < length out → record { next = at + 1; out = set out at b } ≡ put (b ∷ []) out at
+  fits : at < length out → record { answer = at + 1; out = set out at b } ≡ put (b ∷ []) out at
   unfolding put
   fits h = rw (le-leb (at + 1) (length out) (omega arith), add-one, append-snoc, set-split)
 
-  full : length out ≤ at → record { next = at; out = out } ≡ put (b ∷ []) out at
+  full : length out ≤ at → record { answer = at; out = out } ≡ put (b ∷ []) out at
   unfolding put
   full h = rw (lt-leb (at + 1) (length out) (omega arith))
 

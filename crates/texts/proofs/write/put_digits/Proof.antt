@@ -1,4 +1,4 @@
--- `texts::put_digits` meets its contract. Assumes nothing.
+-- `put_digits` meets its contract. Assumes nothing.
 use borrow.Author.Needs.{needs}
 use Rattle.texts.proofs.Puts.{put-room, put-none, room-le, next-fits, length-lowDigits}
 use Rattle.texts.proofs.write.put_digits.Statement.{statement}

@@ -1,15 +1,15 @@
--- `texts::put_hex` meets its contract. Assumes nothing.
+-- `put_hex` meets its contract. Assumes nothing.
 use Prim.Native.Nat.{ℕ, _≤_, _<_, min}
 use mathlib.Core.List.{List}
 use mathlib.Core.Path.{_≡_}
 use native.Mathlib.Omega.{arith}
 use borrow.Author.Needs.{needs}
-use Rattle.texts.specs.Put.{Outcome, put}
+use Rattle.texts.specs.Put.{Placed, put}
 use Rattle.texts.specs.Text.{lowDigits, hexText}
 use Rattle.texts.proofs.write.put_hex.Statement.{statement}
 use Rattle.texts.proofs.write.put_hex.Tie as tie
 
-module _ (n digits at : ℕ) (out : List ℕ) (o : Outcome) where
+module _ (n digits at : ℕ) (out : List ℕ) (o : Placed) where
   few : o ≡ put (lowDigits 16 digits n) out at → digits < 16 → o ≡ put (hexText digits n) out at
   few p h = let e : min digits 16 ≡ digits = omega arith in rw (p, e)
 

@@ -1,4 +1,4 @@
--- `texts::spell` meets its contract. The loop's invariant: the digits of `rest` that are left to put, and what stands behind
+-- `spell` meets its contract. The loop's invariant: the digits of `rest` that are left to put, and what stands behind
 -- them, are what is to stand there in the end. Assumes nothing.
 use Prim.Native.Nat.{ℕ, suc, _+_, _-_, _/_, _%_, _≤_, _<_}
 use mathlib.Core.List.{List, _∷_, _++_, append-assoc}
