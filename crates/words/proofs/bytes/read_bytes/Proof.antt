@@ -1,6 +1,6 @@
--- `pairs::read_bytes` meets its contract: the tests on the way pick a line of `readInto`. Assumes nothing.
+-- `read_bytes` meets its contract: the tests on the way pick a line of `readInto`. Assumes nothing.
 use borrow.Author.Needs.{needs}
-use Rattle.words.proofs.Into.{read-none, read-short, read-all, read-room}
+use Rattle.words.proofs.bytes.Storing.{read-none, read-short, read-all, read-room}
 use Rattle.words.proofs.bytes.read_bytes.Statement.{statement}
 use Rattle.words.proofs.bytes.read_bytes.Tie as tie
 
