@@ -16,7 +16,7 @@ const MOST: usize = 4095;
 // A turn that is a line is answered here, and leaves nothing to do.
 pub fn step(s: State, input: &mut [u8], output: &mut [u8]) -> Turn
     requires { ⌜ 36864 ≤ length (now output) ⌝ }
-    ensures { λ r. ⌜ record { turn = r; input = now (input .exit); output = now (output .exit) }
+    ensures { λ r. ⌜ record { answer = r; out = (now (input .exit), now (output .exit)) }
         ≡ stepOf answerTo s 4095 (now (input .entry)) (now (output .entry)) ⌝ }
 {
     let turn = lines::next(s, MOST, input);
