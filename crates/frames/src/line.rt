@@ -1,16 +1,13 @@
-// A line, and what it is answered.
+// A line, and what it is answered: the call that its frame asks for is made.
 ghost use mathlib.Core.Path.{_≡_};
 ghost use Rattle.texts.specs.Put.{put};
 ghost use Rattle.requests.specs.Frame.{requestIn};
 ghost use Rattle.frames.specs.Answer.{answerTo, replyTo, badReply};
+use crate::VALUES;
 use crate::calls;
 use requests::Asked;
+use requests::MOST;
 use words::Read;
-
-// The most bytes of a frame, and the most values of its points.
-const MOST: usize = 16384;
-
-const VALUES: usize = 8190;
 
 // Puts the answer to a line at a place of `out`, with no end of line, and answers the place behind it.
 // Where it does not fit, nothing is written and the place itself is answered.
@@ -31,8 +28,8 @@ fn reply(frame: &[u8], out: &mut [u8], at: usize) -> usize
 {
     let mut points = [0i32; VALUES];
     match requests::request(frame, &mut points) {
-        Asked::Walk(clockwise, chart, start) => {
-            calls::put_walk(chart, &frame[10..], start, clockwise, out, at)
+        Asked::Walk(clockwise, chart, start, rows) => {
+            calls::put_walk(chart, &frame[rows..], start, clockwise, out, at)
         }
         Asked::Simplify(clockwise, n) => calls::put_simplified(&points[0..n], clockwise, out, at),
         Asked::Reduce(tolerance, n) => {

@@ -1,4 +1,4 @@
-// An answer, put at a place of a buffer as a whole. Each answers the place behind it; where it does
+// An answer line, put at a place of a buffer as a whole. Each answers the place behind it; where it does
 // not fit, it writes nothing and answers the place itself.
 ghost use mathlib.Core.Path.{_≡_};
 ghost use Prim.Native.Nat.{_+_, _*_, _<_, _≤_};
@@ -7,7 +7,7 @@ ghost use lib.ListN.{length};
 ghost use mir.Syntax.{w32};
 ghost use mir.Val.{ofZ};
 ghost use Rattle.texts.specs.Put.{put};
-ghost use Rattle.frames.specs.Replies.{head, pointsText, numbersText};
+ghost use Rattle.frames.specs.Replies.{head, pointsText, countedText, numbersText};
 
 // How many digits stand before the values.
 const HEAD: usize = 8;
@@ -27,6 +27,22 @@ pub fn put_points(kind: u8, number: u8, values: &[i32], out: &mut [u8], at: usiz
         i += 1;
     }
     end
+}
+
+// An answer of the first points of a buffer, as many as a call counted.
+pub(crate) fn put_counted(
+    kind: u8,
+    number: u8,
+    count: usize,
+    values: &[i32],
+    out: &mut [u8],
+    at: usize,
+) -> usize
+    requires { ⌜ count * 2 ≤ length (now values) ⌝ }
+    ensures { λ r. ⌜ record { answer = r; out = now (out .exit) }
+        ≡ put (countedText kind number count (now (values .entry))) (now (out .entry)) at ⌝ }
+{
+    put_points(kind, number, &values[0..count * 2], out, at)
 }
 
 // An answer of numbers.

@@ -1,20 +1,18 @@
 // A frame, by its kind.
 ghost use mathlib.Core.Path.{_≡_};
 ghost use Rattle.requests.specs.Frame.{requestIn};
-ghost use Rattle.requests.specs.Handed.{handed};
+ghost use Rattle.requests.specs.Asked.{askedOf};
 use crate::Asked;
+use crate::MOST;
 use crate::listed::numbers_in;
 use crate::listed::reduce_in;
 use crate::listed::simplify_in;
 use crate::walking::walk_in;
 
-// The most bytes of a frame.
-const MOST: usize = 16384;
-
 // Reads what a frame asks for, and puts its points at the start of `to`. Where they do not fit, or it
 // is no frame, it writes nothing: 8,190 places are enough for every frame.
 pub fn request(frame: &[u8], to: &mut [i32]) -> Asked
-    ensures { λ r. ⌜ record { answer = r; to = now (to .exit) } ≡ handed (requestIn (now (frame .entry))) (now (to .entry)) ⌝ }
+    ensures { λ r. ⌜ record { answer = r; out = now (to .exit) } ≡ askedOf (requestIn (now (frame .entry))) (now (to .entry)) ⌝ }
 {
     if frame.len() == 0 {
         return Asked::NoFrame;

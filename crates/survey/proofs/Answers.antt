@@ -46,11 +46,11 @@ still-whole file more is = by (readOf file chartRoom .answer) refl is
 -- ---- steps
 
 module _ (file : List ℕ) (more : Bool) (output : List ℕ) where
-  writes : more && not (whole file) ≡ false → stepOf file more output ≡ record { turn = Write (length (surveyText file)); output = over (surveyText file) output }
+  writes : more && not (whole file) ≡ false → stepOf file more output ≡ record { answer = Write (length (surveyText file)); out = over (surveyText file) output }
   unfolding stepOf
   writes t = rw t
 
-  reads : more && not (whole file) ≡ true → stepOf file more output ≡ record { turn = Read; output = output }
+  reads : more && not (whole file) ≡ true → stepOf file more output ≡ record { answer = Read; out = output }
   unfolding stepOf
   reads t = rw t
 
@@ -59,15 +59,15 @@ never-waits true = refl
 never-waits false = refl
 
 -- what a machine does that has not ended
-goes : (m : Machine) (s : Step) → m .ended ≡ false → stepIn m ≡ s → turned m ≡ done (s .turn) (left m (s .output))
+goes : (m : Machine) (s : Step) → m .ended ≡ false → stepIn m ≡ s → turned m ≡ done (s .answer) (left m (s .out))
 unfolding turned
 goes m s live e =
-    ap (λ (b : Bool). if b then m else done (stepIn m .turn) (left m (stepIn m .output))) live
-    ∙ ap (λ (t : Step). done (t .turn) (left m (t .output))) e
+    ap (λ (b : Bool). if b then m else done (stepIn m .answer) (left m (stepIn m .out))) live
+    ∙ ap (λ (t : Step). done (t .answer) (left m (t .out))) e
 
 rests : (m : Machine) → m .ended ≡ true → turned m ≡ m
 unfolding turned
-rests m e = ap (λ (b : Bool). if b then m else done (stepIn m .turn) (left m (stepIn m .output))) e
+rests m e = ap (λ (b : Bool). if b then m else done (stepIn m .answer) (left m (stepIn m .out))) e
 
 -- ---- bytes
 

@@ -36,6 +36,6 @@ unfolding surveyText readOf pointsText lowDigits
 empty = refl
 
 -- but more may come
-waits : stepOf [] true (1 ∷ []) ≡ record { turn = Read; output = 1 ∷ [] }
+waits : stepOf [] true (1 ∷ []) ≡ record { answer = Read; out = 1 ∷ [] }
 unfolding stepOf surveyText whole readOf
 waits = refl

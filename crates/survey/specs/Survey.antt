@@ -7,6 +7,7 @@ use lib.IntN.{ℤ}
 use lib.ListN.{length, take, replicate}
 use Rattle.laws.specs.If.{if_then_else_}
 use Rattle.laws.specs.Lists.{over}
+use Rattle.laws.specs.Outcome.{Outcome}
 use Rattle.point.specs.Refusals.{refusalNumber, countOf}
 use Rattle.chart.specs.Start.{firstStart}
 use Rattle.chart.specs.declared.Chart.{Chart}
@@ -84,19 +85,18 @@ isRead (Picture.Refused r) = false
 unfoldable pub whole : List ℕ → Bool
 whole file = isRead (Pbm.readOf file chartRoom .answer)
 
--- a turn, with what the output then holds
-pub record Step : Type 0 where
-  pub turn : Turn
-  pub output : List ℕ
+-- a turn is answered, and the output then holds this
+abbrev pub Step : Type 0
+Step = Outcome Turn (List ℕ)
 
 -- "Bytes after the first image are left unread": nothing is waited for behind it. Without it, all that may come is read.
 unfoldable pub stepOf : List ℕ → Bool → List ℕ → Step
 unfolding surveyText whole
 stepOf file more output =
     if more && not (whole file) then
-    record { turn = Read; output = output }
+    record { answer = Read; out = output }
     else
-    record { turn = Write (length (surveyText file)); output = over (surveyText file) output }
+    record { answer = Write (length (surveyText file)); out = over (surveyText file) output }
 
 -- Whether more may come once `end` bytes are held, of which the last read brought n: until it brought none, at the end of the input, or the
 -- buffer of `size` bytes is full.

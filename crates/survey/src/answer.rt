@@ -12,6 +12,7 @@ ghost use Rattle.frames.specs.Calls.{numbersReply};
 ghost use Rattle.survey.specs.Survey.{outlineOf, twoLines, threeLines, refusedLine};
 use chart::Chart;
 use chart::Start;
+use frames::VALUES;
 use point::Refusal;
 use walker::Walked;
 
@@ -21,7 +22,7 @@ pub(crate) fn put_lines(chart: Chart, pixels: &[u8], output: &mut [u8]) -> usize
     ensures { λ r. ⌜ record { answer = r; out = now (output .exit) }
         ≡ put (threeLines chart (now (pixels .entry))) (now (output .entry)) 0 ⌝ }
 {
-    let mut points = [0i32; 8190];
+    let mut points = [0i32; VALUES];
     let walked = outline(chart, pixels, &mut points);
     let values = walked.count() * 2;
     let end = put_points(1, walked.number(), &points[0..values], output, 0);
@@ -55,7 +56,7 @@ fn put_simplified(list: &[i32], output: &mut [u8], at: usize) -> usize
     ensures { λ r. ⌜ record { answer = r; out = now (output .exit) }
         ≡ put (twoLines (now (list .entry))) (now (output .entry)) at ⌝ }
 {
-    let mut kept = [0i32; 8190];
+    let mut kept = [0i32; VALUES];
     let answer = simplify::simplify(list, true, &mut kept);
     let values = answer.count() * 2;
     let end = put_points(2, answer.number(), &kept[0..values], output, at);

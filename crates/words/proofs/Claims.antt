@@ -15,7 +15,7 @@ use Rattle.words.specs.Line.{firstFrom, wordsOf, wordOf}
 use Rattle.words.specs.Digits.{digitOf}
 use Rattle.words.specs.Hexadecimal.{hexOf, patternOf}
 use Rattle.words.specs.Decimal.{integerOf, naturalOf}
-use Rattle.words.specs.Bytes.{Filled, isDash, bytesOf, pairsOf, readInto}
+use Rattle.words.specs.Bytes.{Stored, isDash, bytesOf, pairsOf, readInto}
 use Rattle.words.specs.declared.hexadecimal.Hex.{Hex}
 use Rattle.words.specs.declared.decimal.Integer.{Integer}
 use Rattle.words.specs.declared.decimal.Natural.{Natural}
@@ -63,21 +63,21 @@ read-integer-determined = same integerOf (λ _ a r s p. p)
 pub is-dash-determined : Determined (List ℕ) Bool Is-dash (λ _ a. now (a .0)) (λ _ r s. r)
 is-dash-determined = same isDash (λ _ a r s p. p)
 
-pub read-bytes-determined : Determined (List ℕ × List ℕ) Filled Read-bytes (λ _ a. (now (a .0), now (a .1 .0))) (λ _ r s. record { answer = r; out = now (s .1 .0) })
+pub read-bytes-determined : Determined (List ℕ × List ℕ) Stored Read-bytes (λ _ a. (now (a .0), now (a .1 .0))) (λ _ r s. record { answer = r; out = now (s .1 .0) })
 read-bytes-determined = same (λ x. readInto (bytesOf (x .0)) (x .1)) (λ _ a r s p. p)
 
-pub read-pairs-determined : Determined (List ℕ × List ℕ) Filled Read-pairs (λ _ a. (now (a .0), now (a .1 .0))) (λ _ r s. record { answer = r; out = now (s .1 .0) })
+pub read-pairs-determined : Determined (List ℕ × List ℕ) Stored Read-pairs (λ _ a. (now (a .0), now (a .1 .0))) (λ _ r s. record { answer = r; out = now (s .1 .0) })
 read-pairs-determined = same (λ x. readInto (pairsOf (x .0)) (x .1)) (λ _ a r s p. p)
 
 -- What is read fits the buffer.
 fits : (xs : Option (List ℕ)) (to : List ℕ) (n : ℕ) → readInto xs to .answer ≡ Is n → n ≤ length to
 fits none to n = λ e. let z : _≡_ {A = ℕ} 0 1 = cc in absurd (omega arith)
 fits (some xs) to n =
-    if-cases (λ (o : Filled). o .answer ≡ Is n → n ≤ length to) (leb (length xs) (length to)) _ _
+    if-cases (λ (o : Stored). o .answer ≡ Is n → n ≤ length to) (leb (length xs) (length to)) _ _
     (λ t e. let k : n ≡ length xs = cc in omega (arith, leb-true (length xs) (length to) t))
     (λ t e. let z : _≡_ {A = ℕ} 0 1 = cc in absurd (omega arith))
 
 -- What is read fits the buffer, as a caller has it at hand: of the answer `r` and the buffer's last content.
 pub read-fits : (xs : Option (List ℕ)) (to last : List ℕ) (r : Read) (n : ℕ) →
     record { answer = r; out = last } ≡ readInto xs to → r ≡ Is n → length last ≡ length to → n ≤ length last
-read-fits xs to last r n e is kept = rw kept (fits xs to n (sym (ap (λ (o : Filled). o .answer) e) ∙ is))
+read-fits xs to last r n e is kept = rw kept (fits xs to n (sym (ap (λ (o : Stored). o .answer) e) ∙ is))

@@ -38,11 +38,11 @@ pairsOf w = if isDash w then some [] else if eqb (length w) 0 then none else byt
 -- ---- bytes that are read to a buffer
 
 -- how many were read is the answer
-abbrev pub Filled : Type 0
-Filled = Outcome Read (List ℕ)
+abbrev pub Stored : Type 0
+Stored = Outcome Read (List ℕ)
 
 -- all of them at the start of the buffer; where there are none to read, or no room for all, nothing is written
-abbrev pub readInto : Option (List ℕ) → List ℕ → Filled
+abbrev pub readInto : Option (List ℕ) → List ℕ → Stored
 readInto none to = record { answer = Read.Not; out = to }
 readInto (some xs) to =
     if leb (length xs) (length to) then record { answer = Read.Is (length xs); out = over xs to } else record { answer = Read.Not; out = to }

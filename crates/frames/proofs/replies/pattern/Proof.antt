@@ -1,4 +1,4 @@
--- `replies::pattern` meets its contract: below zero, 2 ^ 32 - 1 less how far below -1 the value lies. Assumes nothing.
+-- `pattern` meets its contract: below zero, 2 ^ 32 - 1 less how far below -1 the value lies. Assumes nothing.
 use Prim.Native.Nat.{ℕ, suc, _-_, _≤_, _<_}
 use mathlib.Core.Bool.{true, false}
 use mathlib.Core.Path.{_≡_, refl, ap, _∙_}

@@ -1,4 +1,4 @@
--- `replies::put_head` meets its contract: three texts, one behind the other. Assumes nothing.
+-- `put_head` meets its contract: three texts, one behind the other. Assumes nothing.
 use Prim.Native.Nat.{ℕ, _+_, _≤_}
 use mathlib.Core.List.{List, _++_}
 use mathlib.Core.Path.{_≡_}

@@ -1,4 +1,4 @@
--- `replies::put_points` meets its contract. The loop's invariant: what is left to put gives the whole. Assumes nothing.
+-- `put_points` meets its contract. The loop's invariant: what is left to put gives the whole. Assumes nothing.
 use Prim.Native.Nat.{ℕ, _+_, _*_, _-_, _/_, _^_, _≤_, _<_}
 use mathlib.Core.Bool.{Bool, false, not}
 use mathlib.Core.List.{List, _++_}

@@ -1,4 +1,4 @@
--- `requests::request` meets its contract. Assumes nothing.
+-- `request` meets its contract. Assumes nothing.
 use borrow.Author.Needs.{needs}
 use Rattle.requests.proofs.ByKind.{empty, too-long, kind-1, kind-2, kind-3, kind-4, no-kind}
 use Rattle.requests.proofs.kinds.request.Statement.{statement}

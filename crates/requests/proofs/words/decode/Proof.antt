@@ -1,4 +1,4 @@
--- `requests::decode` meets its contract. Assumes nothing.
+-- `decode` meets its contract. Assumes nothing.
 use Prim.Native.Nat.{ℕ, _+_, _*_, _-_, _/_, _≤_, _<_}
 use mathlib.Core.List.{List}
 use mathlib.Core.Path.{_≡_, sym, ap, _∙_}

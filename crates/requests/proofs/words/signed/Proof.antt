@@ -1,4 +1,4 @@
--- `requests::signed` meets its contract. Assumes nothing.
+-- `signed` meets its contract. Assumes nothing.
 use Prim.Native.Nat.{ℕ, _≤_, _<_}
 use mathlib.Core.Path.{_≡_, ap, _∙_}
 use native.Mathlib.Nat.{lt-trans}

@@ -1,4 +1,4 @@
--- `survey::outline` meets its contract: the walk from the first start, or its refusal. Assumes nothing.
+-- `outline` meets its contract: the walk from the first start, or its refusal. Assumes nothing.
 use Prim.Native.Nat.{ℕ}
 use mathlib.Core.Bool.{true}
 use mathlib.Core.List.{List}

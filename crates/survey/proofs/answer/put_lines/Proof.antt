@@ -1,4 +1,4 @@
--- `survey::put_lines` meets its contract: the outline's line and behind it the other two, for which there is room. Assumes nothing.
+-- `put_lines` meets its contract: the outline's line and behind it the other two, for which there is room. Assumes nothing.
 use Prim.Native.Nat.{ℕ, _+_, _*_, _-_, _≤_}
 use mathlib.Core.List.{List}
 use mathlib.Core.Path.{_≡_, ap, ap₂, _∙_}
@@ -17,7 +17,7 @@ use Rattle.lines.specs.Turns.{line}
 use Rattle.frames.specs.Replies.{pointsText}
 use Rattle.frames.specs.Room.{room}
 use Rattle.texts.proofs.Pieces.{put-then}
-use Rattle.frames.proofs.Parts.{at-most-two}
+use Rattle.frames.proofs.Parts.{part-fits, part-within}
 use Rattle.frames.specs.Calls.{walkReply}
 use Rattle.survey.specs.Survey.{outlineOf, outlined, twoLines, threeLines}
 use Rattle.survey.proofs.Lines.{points-line-short, outline-counts, three-short, place-behind, same-points, part-short}
@@ -36,10 +36,10 @@ module _ (c : Chart) (pixels : List ℕ) (a : Walked) (values : List ℤ) (k : �
   few = omega (arith, outline-counts c pixels, count ∙ ap (λ (o : Outcome). walkedCount (o .answer)) is)
 
   outline-fits : (j : ℕ) → j ≤ 2 → Fits w64 (k * j)
-  outline-fits j h = record { fits = omega (arith, at-most-two k j few h) }
+  outline-fits = part-fits k few
 
   outline-part : (j : ℕ) → j ≤ 2 → length values ≡ 8190 → k * j ≤ length values
-  outline-part j h e = omega (arith, at-most-two k j few h)
+  outline-part = part-within k few values
 
   abbrev outline : Outcome
   outline = outlineOf c pixels room

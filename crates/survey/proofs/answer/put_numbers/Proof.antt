@@ -1,4 +1,4 @@
--- `survey::put_numbers` meets its contract: no answer is longer than the room. Assumes nothing.
+-- `put_numbers` meets its contract: no answer is longer than the room. Assumes nothing.
 use Prim.Native.Nat.{ℕ, _+_, _≤_}
 use mathlib.Core.List.{List, [], _∷_}
 use mathlib.Core.Path.{_≡_}

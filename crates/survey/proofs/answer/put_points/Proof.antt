@@ -1,4 +1,4 @@
--- `survey::put_points` meets its contract: so few points have a line that fits. Assumes nothing.
+-- `put_points` meets its contract: so few points have a line that fits. Assumes nothing.
 use Prim.Native.Nat.{ℕ, _+_, _≤_}
 use mathlib.Core.List.{List, [], _∷_}
 use mathlib.Core.Path.{_≡_}

@@ -1,4 +1,4 @@
--- `survey::put_refusal` meets its contract. Assumes nothing.
+-- `put_refusal` meets its contract. Assumes nothing.
 use Prim.Native.Nat.{ℕ}
 use mathlib.Core.List.{List, []}
 use mathlib.Core.Path.{_≡_, ap, _∙_}

@@ -1,4 +1,4 @@
--- `survey::put_simplified` meets its contract: one line and behind it the other, for which there is room. Assumes nothing.
+-- `put_simplified` meets its contract: one line and behind it the other, for which there is room. Assumes nothing.
 use Prim.Native.Nat.{ℕ, _+_, _*_, _-_, _≤_}
 use mathlib.Core.Bool.{true}
 use mathlib.Core.List.{List}
@@ -6,6 +6,8 @@ use mathlib.Core.Path.{_≡_, ap, ap₂, _∙_}
 use native.Mathlib.Omega.{arith}
 use lib.IntN.{ℤ}
 use lib.ListN.{length, take}
+use mir.Syntax.{w64}
+use mir.Val.{Fits}
 use borrow.Author.Needs.{needs}
 use Rattle.point.specs.Refusals.{numberOf, countOf}
 use Rattle.point.specs.declared.refusal.Answer.{Answer}
@@ -18,7 +20,8 @@ use Rattle.frames.specs.Replies.{pointsText}
 use Rattle.frames.specs.Room.{room, numberRoom}
 use Rattle.texts.proofs.Pieces.{put-then}
 use Rattle.frames.specs.Calls.{simplifyReply, numbersReply}
-use Rattle.frames.proofs.Room.{kept-fit, kept-part}
+use Rattle.frames.proofs.Parts.{part-fits, part-within}
+use Rattle.frames.proofs.Room.{simplify-counts}
 use Rattle.survey.specs.Survey.{kept, twoLines}
 use Rattle.survey.proofs.Lines.{points-line-short, two-short, place-behind, same-points, part-short}
 use Rattle.survey.proofs.answer.put_simplified.Statement.{statement}
@@ -33,6 +36,15 @@ second-fits kind n j at m values out mid size h e same =
 
 -- both are those of the simplification
 module _ (list : List ℤ) (a : Answer) (last-kept : List ℤ) (k : ℕ) (is : record { answer = a; out = last-kept } ≡ simplifyOf list true room) (count : k ≡ countOf a) where
+  few : k * 2 ≤ 8190
+  few = omega (arith, simplify-counts list true, count ∙ ap (λ (o : Points). countOf (o .answer)) is)
+
+  kept-fit : (j : ℕ) → j ≤ 2 → Fits w64 (k * j)
+  kept-fit = part-fits k few
+
+  kept-part : (j : ℕ) → j ≤ 2 → length last-kept ≡ 8190 → k * j ≤ length last-kept
+  kept-part = part-within k few last-kept
+
   abbrev simple : Points
   simple = simplifyOf list true room
 

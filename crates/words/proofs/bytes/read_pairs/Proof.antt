@@ -7,7 +7,7 @@ use lib.ListN.{length}
 use borrow.Author.Needs.{needs}
 use borrow.Author.Tests.{le-leb, eq-eqb, ne-eqb}
 use Rattle.laws.specs.Lists.{over}
-use Rattle.words.specs.Bytes.{Filled, isDash, readInto, bytesOf, pairsOf}
+use Rattle.words.specs.Bytes.{Stored, isDash, readInto, bytesOf, pairsOf}
 use Rattle.words.specs.declared.bytes.Read.the-variants as Read
 use Rattle.words.proofs.bytes.read_pairs.Statement.{statement}
 use Rattle.words.proofs.bytes.read_pairs.Tie as tie
@@ -20,7 +20,7 @@ module _ (w to : List ℕ) (dash : Bool) (says : dash ≡ isDash w) where
   no-word : dash ≡ false → length w ≡ 0 → record { answer = Read.Not; out = to } ≡ readInto (pairsOf w) to
   no-word e z = rw (← says, e, eq-eqb _ _ z)
 
-  bytes : (o : Filled) → dash ≡ false → (length w ≡ 0 → ⊥) → o ≡ readInto (bytesOf w) to → o ≡ readInto (pairsOf w) to
+  bytes : (o : Stored) → dash ≡ false → (length w ≡ 0 → ⊥) → o ≡ readInto (bytesOf w) to → o ≡ readInto (pairsOf w) to
   bytes o e z h = rw (← says, e, ne-eqb _ _ z) h
 
 ruleset laws = (no-bytes, no-word, bytes, needs)

@@ -14,7 +14,7 @@ use Rattle.simplify.specs.Simplify.{simplifyOf}
 use Rattle.reduce.specs.Reduce.{reduceOf, numberedOf}
 use Rattle.texts.specs.Put.{Placed, put}
 use Rattle.requests.specs.Frame.{Request, requestIn}
-use Rattle.requests.specs.Handed.{handed}
+use Rattle.requests.specs.Asked.{askedOf}
 use Rattle.requests.specs.declared.Asked.{Asked}
 use Rattle.requests.specs.declared.Asked.the-variants as Asked
 use Rattle.requests.proofs.Points.{rest-is}
@@ -29,9 +29,9 @@ sixteen-is : ofBits binary64 0x4030000000000000 ≡ ofInt binary64 (pos 16)
 unfolding ofBits ofInt
 sixteen-is = refl
 
-module _ (f : List ℕ) (a : Asked) (to : List ℤ) (is : record { answer = a; to = to } ≡ handed (requestIn f) (replicate 8190 (pos 0))) where
-  all-told : Told f (replicate 8190 (pos 0)) (requestIn f) (record { answer = a; to = to })
-  all-told = told f (replicate 8190 (pos 0)) (omega (arith, length-replicate 8190 (pos 0))) (record { answer = a; to = to }) is
+module _ (f : List ℕ) (a : Asked) (to : List ℤ) (is : record { answer = a; out = to } ≡ askedOf (requestIn f) (replicate 8190 (pos 0))) where
+  all-told : Told f (replicate 8190 (pos 0)) (requestIn f) (record { answer = a; out = to })
+  all-told = told f (replicate 8190 (pos 0)) (omega (arith, length-replicate 8190 (pos 0))) (record { answer = a; out = to }) is
 
   -- an answer put for what was asked for
   asked : (b : Asked) (o : Placed) (out : List ℕ) (at : ℕ) → a ≡ b → o ≡ put (replyTo (said b to f)) out at → o ≡ put (replyTo (requestIn f)) out at
@@ -43,15 +43,15 @@ module _ (f : List ℕ) (a : Asked) (to : List ℤ) (is : record { answer = a; t
 
   -- ---- kind 01
 
-  module _ (cw : Bool) (chart : Chart) (start : PointI32) (e : a ≡ Asked.Walk cw chart start) where
-    pub rows-begin : 10 ≤ length f
+  module _ (cw : Bool) (chart : Chart) (start : PointI32) (rows : ℕ) (e : a ≡ Asked.Walk cw chart start rows) where
+    pub rows-begin : rows ≤ length f
     rows-begin = omega (arith, all-told .behind, ap bytesBefore e)
 
-    pub a-walk : (o : Placed) (out : List ℕ) (at : ℕ) → o ≡ put (walkReply (walked chart (take (length f - 10) (drop 10 f)) start cw room)) out at →
+    pub a-walk : (o : Placed) (out : List ℕ) (at : ℕ) → o ≡ put (walkReply (walked chart (take (length f - rows) (drop rows f)) start cw room)) out at →
         o ≡ put (replyTo (requestIn f)) out at
     a-walk o out at p =
-        asked (Asked.Walk cw chart start) o out at e
-        (unfold replyTo in p ∙ ap (λ (rows : List ℕ). put (walkReply (walked chart rows start cw room)) out at) (rest-is f 10))
+        asked (Asked.Walk cw chart start rows) o out at e
+        (unfold replyTo in p ∙ ap (λ (bytes : List ℕ). put (walkReply (walked chart bytes start cw room)) out at) (rest-is f rows))
 
   -- ---- kind 02
 
