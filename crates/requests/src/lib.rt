@@ -3,8 +3,8 @@
 // Nothing fails: what is no frame is answered so.
 mod kinds;
 mod listed;
+mod two_bytes;
 mod walking;
-mod words;
 
 use chart::Chart;
 pub use kinds::request;

@@ -7,8 +7,8 @@ ghost use lib.ListN.{length};
 ghost use Rattle.requests.specs.Frame.{wordAt, simplifyIn, reduceIn, numbersIn};
 ghost use Rattle.requests.specs.Asked.{askedOf};
 use crate::Asked;
-use crate::words::decode;
-use crate::words::word;
+use crate::two_bytes::decode;
+use crate::two_bytes::word;
 
 // Kind 02: direction, points.
 pub(crate) fn simplify_in(frame: &[u8], to: &mut [i32]) -> Asked

@@ -9,8 +9,8 @@ ghost use Rattle.chart.specs.Pixels.{rowBytes};
 ghost use Rattle.requests.specs.Frame.{wordAt, directed, rowsFrom, chartIn, startIn, walkIn};
 ghost use Rattle.requests.specs.Asked.{askedOf};
 use crate::Asked;
-use crate::words::signed;
-use crate::words::word;
+use crate::two_bytes::signed;
+use crate::two_bytes::word;
 use chart::Chart;
 use point::PointI32;
 

@@ -12,8 +12,8 @@ use borrow.Author.Needs.{needs}
 use borrow.Author.Tests.{lt-ltb, le-ltb}
 use Rattle.laws.proofs.Integers.{sub-sfits}
 use Rattle.requests.specs.Frame.{signed}
-use Rattle.requests.proofs.words.signed.Statement.{statement}
-use Rattle.requests.proofs.words.signed.Tie as tie
+use Rattle.requests.proofs.two_bytes.signed.Statement.{statement}
+use Rattle.requests.proofs.two_bytes.signed.Tie as tie
 
 itself : (n : ℕ) → n < 32768 → toZ w32 n ≡ signed n
 itself n h = toZ-pos w32 (lt-trans h (lit< tt)) ∙ rw (lt-ltb n 32768 h)

@@ -12,8 +12,8 @@ use Rattle.laws.specs.Lists.{over}
 use Rattle.laws.proofs.Lists.{over-nil, over-push}
 use Rattle.requests.specs.Frame.{wordAt, signed, valuesOf}
 use Rattle.requests.proofs.Values.{length-values, value-at}
-use Rattle.requests.proofs.words.decode.Statement.{statement}
-use Rattle.requests.proofs.words.decode.Tie as tie
+use Rattle.requests.proofs.two_bytes.decode.Statement.{statement}
+use Rattle.requests.proofs.two_bytes.decode.Tie as tie
 
 abbrev Inv-loop : tie.InvT-loop
 Inv-loop bytes to₀ n i₀ to i = (i ≤ n) × (length to ≡ length to₀) × (to ≡ over (take i (valuesOf bytes)) to₀)
