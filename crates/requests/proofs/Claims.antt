@@ -20,7 +20,7 @@ use Rattle.requests.specs.Asked.{askedOf}
 use Rattle.requests.specs.declared.Asked.{Asked}
 use Rattle.requests.specs.declared.Asked.the-variants as Asked
 use Rattle.requests.proofs.Points.{length-rest}
-use Rattle.requests.proofs.kinds.request.Reads.{Post}
+use Rattle.requests.proofs.frame.request.Reads.{Post}
 
 -- The contract leaves no choice: of equal arguments it allows one answer, and one last content of the buffer. `Post` is the contract itself, as
 -- Rattle reads it off the source.

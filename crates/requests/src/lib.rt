@@ -1,13 +1,13 @@
 // What a frame asks for, read off its bytes: for `frames`, which makes the call and answers it.
 //
 // Nothing fails: what is no frame is answered so.
-mod kinds;
+mod frame;
 mod listed;
 mod two_bytes;
 mod walking;
 
 use chart::Chart;
-pub use kinds::request;
+pub use frame::request;
 use point::PointI32;
 
 // The most bytes of a frame.

@@ -10,9 +10,9 @@ use Rattle.laws.proofs.Determined.{Determined, same}
 use Rattle.laws.proofs.If.{if-cases}
 use Rattle.texts.specs.Text.{naturalText, decimalText, hexText}
 use Rattle.texts.specs.Put.{Placed, put}
-use Rattle.texts.proofs.write.put_byte.Reads.{Post as Put-byte}
-use Rattle.texts.proofs.write.put_bytes.Reads.{Post as Put-bytes}
-use Rattle.texts.proofs.write.put_hex.Reads.{Post as Put-hex}
+use Rattle.texts.proofs.put.put_byte.Reads.{Post as Put-byte}
+use Rattle.texts.proofs.put.put_bytes.Reads.{Post as Put-bytes}
+use Rattle.texts.proofs.put.put_hex.Reads.{Post as Put-hex}
 use Rattle.texts.proofs.decimal.put_natural.Reads.{Post as Put-natural}
 use Rattle.texts.proofs.decimal.put_decimal.Reads.{Post as Put-decimal}
 

@@ -6,9 +6,9 @@ ghost use lib.IntN.{natAbs};
 ghost use lib.ListN.{length};
 ghost use Rattle.texts.specs.Put.{put};
 ghost use Rattle.texts.specs.Text.{naturalText, decimalText};
-use crate::write::has_room;
-use crate::write::put_digits;
-use crate::write::spell;
+use crate::put::has_room;
+use crate::put::put_digits;
+use crate::put::spell;
 
 // The digits of `n`, with no zero in front, and behind a minus sign where `n` is below zero.
 pub fn put_decimal(n: i64, out: &mut [u8], at: usize) -> usize

@@ -4,10 +4,10 @@
 // Nothing fails: what does not fit is not written.
 mod decimal;
 mod glyphs;
-mod write;
+mod put;
 
 pub use decimal::put_decimal;
 pub use decimal::put_natural;
-pub use write::put_byte;
-pub use write::put_bytes;
-pub use write::put_hex;
+pub use put::put_byte;
+pub use put::put_bytes;
+pub use put::put_hex;
