@@ -79,8 +79,9 @@ module _ (list : List ℤ) (tolerance : Float) where
 
   module _ (a : Answer) (values scratch : List ℤ) (last-marks : List ℕ) (k : ℕ)
       (is : record { answer = a; out = values; scratch = scratch; marks = last-marks } ≡ reduceOf list tolerance room room marks) (count : k ≡ countOf a) where
-    pub reduce-room : length values ≡ 8190 → k * 2 ≤ length values
-    reduce-room = counted-room numberOf countOf a k count values (omega (arith, reduce-counts, ap (λ (o : Reduced). countOf (o .answer)) is))
+    -- in any of its buffers
+    pub reduce-room : (l : List ℤ) → length l ≡ 8190 → k * 2 ≤ length l
+    reduce-room l = counted-room numberOf countOf a k count l (omega (arith, reduce-counts, ap (λ (o : Reduced). countOf (o .answer)) is))
 
     pub reduce-put : (n at : ℕ) (out : List ℕ) (o : Placed) → n ≡ numberOf a → o ≡ put (countedText 3 n k values) out at →
         o ≡ put (reduceReply (reduceOf list tolerance room room marks)) out at
