@@ -47,10 +47,6 @@ ones-mod (suc k) n =
 pub ones-is : (k n : ℕ) → n < 2 ^ k → ones n ≡ setBits k n
 ones-is k n h = ap ones (sym (mod-eq-of-lt h)) ∙ ones-mod k n
 
--- of its k low digits, kept by a mask
-pub ones-low : (k n : ℕ) → ones (bitAnd n (2 ^ k - 1)) ≡ setBits k n
-ones-low k n = ap ones (and-mask n k) ∙ ones-mod k n
-
 -- of the j high digits of a number of j + k, kept by a mask
 pub ones-high : (j k n : ℕ) → n < 2 ^ (j + k) → ones (bitAnd n (2 ^ (j + k) - 2 ^ k)) ≡ setBits j (n / 2 ^ k)
 unfolding ones

@@ -83,6 +83,3 @@ between-below k a b x h t =
     let f = and-r (leb (natAbs a) (2 ^ k) && leb (natAbs b) (2 ^ k)) (leb k 53) t in
     let small : T (leb (2 ^ k) (2 ^ 53)) = le→leb (2 ^ k) (2 ^ 53) (pow-mono (leb→le k 53 f)) in
     within-below k (ofInt-whole a (leb→le (natAbs a) (2 ^ k) l) small) (ofInt-whole b (leb→le (natAbs b) (2 ^ k) g) small) (both .0) (both .1) (le→leb (2 ^ k) (2 ^ k) (le-refl (2 ^ k)))
-
-pub between-zero : (n : ℕ) (b : ℤ) (x : Float) → (le (ofInt binary64 (pos n)) x && le x (ofInt binary64 b)) ≡ true → T (leb n (2 ^ 53)) → AtLeastZero x
-between-zero n b x h t = from-zero (ofInt-whole (pos n) (le-refl n) t) (both-true (le (ofInt binary64 (pos n)) x) (le x (ofInt binary64 b)) h .0)

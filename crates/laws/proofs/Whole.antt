@@ -15,7 +15,7 @@ use lib.Ieee.Back.{round-whole, whole-unique}
 use lib.Ieee.Scale.{round-same}
 use Rattle.laws.proofs.Integers.{abs-neg, abs-add-le, abs-mul-le}
 use Rattle.laws.proofs.Ring.{add-pn, neg-pn, eq-pn, negℤ-*ℤ, *ℤ-negℤ}
-use Rattle.laws.proofs.Finite.{Below, Big, ofInt-nonneg}
+use Rattle.laws.proofs.Finite.{Big, ofInt-nonneg}
 use Rattle.laws.specs.Finite.{NonNeg}
 
 -- ---- definitions
@@ -38,9 +38,6 @@ Equals (fin s m e) z = (k : ℕ) × (z ≡ signed s k) × (m * up e ≡ k * down
 pub record Whole (n : ℕ) (x : Float) (z : ℤ) : Type 0 where
   pub equals : Equals x z
   pub bound : natAbs z ≤ n
-
-pub whole-mono : {m n : ℕ} {x : Float} {z : ℤ} → Whole m x z → T (leb m n) → Whole n x z
-whole-mono {m} {n} w t = record { equals = w .equals; bound = le-trans (w .bound) (leb→le m n t) }
 
 -- what is whole is finite: its integer is its sign and its size k
 pub whole-cases : {n : ℕ} {x : Float} {z : ℤ} (Q : Float → ℤ → Type 0) → ((s : Bool) (m : ℕ) (e : ℤ) (k : ℕ) → m * up e ≡ k * down e → Q (fin s m e) (signed s k)) → Whole n x z → Q x z
@@ -182,16 +179,6 @@ whole-number w = whole-cases (λ x z. isNan x ≡ false) (λ s m e k h. refl) w
 pub zero-whole : Whole 0 (ofBits binary64 0) (pos 0)
 unfolding ofBits
 zero-whole = record { equals = (0, refl, refl); bound = le-refl 0 }
-
-pub one-whole : Whole 1 (ofBits binary64 0x3ff0000000000000) (pos 1)
-unfolding ofBits
-one-whole = record { equals = (1, refl, refl); bound = le-refl 1 }
-
-pub whole-below : {n : ℕ} {x : Float} {z : ℤ} (k : ℕ) → Whole n x z → T (leb n (2 ^ k)) → Below k x
-whole-below {n} k w t = whole-cases (λ x z. natAbs z ≤ n → Below k x) (λ s i e j h l. record { at-most = go s i e j h l }) w (w .bound)
-  where
-    go : (s : Bool) (i : ℕ) (e : ℤ) (j : ℕ) → i * up e ≡ j * down e → natAbs (signed s j) ≤ n → i * up e ≤ 2 ^ k * down e
-    go s i e j h l = le-trans (le-of-eq h) (mul-le-mul-right (down e) (le-trans (le-of-eq (sym (abs-signed s j))) (le-trans l (leb→le n (2 ^ k) t))))
 
 pub whole-big : {n : ℕ} {x : Float} {z : ℤ} → Whole n x z → 0 < natAbs z → Big x
 whole-big w = whole-cases (λ x z. 0 < natAbs z → Big x) (λ s i e j h l. record { at-least = go s i e j h l }) w
