@@ -42,10 +42,6 @@ places-shorter m n h k = go (eqb m 1) refl
     go true e = rw e (omega (arith, places-enough n))
     go false e = rw e (omega (arith, places-enough n))
 
--- a list that is not empty has a place for its first point
-pub first-fits : (list out : List ℤ) → 0 < count list → placesFor (count list) * 2 ≤ length out → 1 < length out
-first-fits list out o h = omega (arith, places-enough (count list))
-
 pub not-bad : (list : List ℤ) (bad : Bool) → bad ≡ badPoints list → bad ≡ false → badPoints list ≡ false
 not-bad list bad b e = sym b ∙ e
 
@@ -56,6 +52,3 @@ list-fits list out bad places b e p h = omega (arith, places-enough (count list)
 -- what a test says, as a callee asks it
 pub some-points : (list : List ℤ) → (count list ≡ 0 → ⊥) → 0 < count list
 some-points list n = omega arith
-
-pub places-fit : (list out : List ℤ) (places : ℕ) → places ≡ placesFor (count list) → places ≤ length out / 2 → placesFor (count list) * 2 ≤ length out
-places-fit list out places p h = omega arith

@@ -14,7 +14,7 @@ use Rattle.laws.proofs.Order.{at-least-zero}
 use Rattle.point.specs.Points.{points, count, pointAt}
 use Rattle.point.specs.declared.PointI32.{PointI32}
 use Rattle.point.proofs.Flat.{points-at}
-use Rattle.point.proofs.Within.{limit-x, limit-y}
+use Rattle.point.proofs.Near.{limit-x, limit-y}
 use Rattle.simplify.specs.Penalties.{penalty, at, pastDelta, tooCostly}
 use Rattle.simplify.specs.inside.Costs.{reaches}
 use Rattle.simplify.proofs.Reached.{someReaches, reached-by-one, hit, passed, none-left}

@@ -8,6 +8,7 @@ use Rattle.point.specs.Limits.{badPoints}
 use Rattle.point.specs.declared.PointI32.{PointI32}
 use Rattle.point.proofs.Claims.{coordinates-fit}
 use Rattle.point.specs.Points.{pointAt}
+use Rattle.point.specs.inside.Near.{Near}
 
 module _ (list : List ℤ) (good : badPoints list ≡ false) (p : PointI32) (k : ℕ) (e : p ≡ pointAt list k) where
   pub limit-x : natAbs (p .x) ≤ 16383
@@ -15,3 +16,6 @@ module _ (list : List ℤ) (good : badPoints list ≡ false) (p : PointI32) (k :
 
   pub limit-y : natAbs (p .y) ≤ 16383
   limit-y = rw e (coordinates-fit list good (k * 2 + 1))
+
+  pub near : Near p
+  near = record { across = limit-x; down = limit-y }
