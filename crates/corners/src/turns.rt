@@ -6,7 +6,7 @@ ghost use lib.IntN.{pos, natAbs, _+ℤ_, _-ℤ_, _*ℤ_};
 ghost use lib.Signed.{leZ};
 ghost use Rattle.point.specs.Limits.{badPoints};
 ghost use Rattle.util.specs.Area.{crossOf};
-ghost use Rattle.util.specs.Near.{Near};
+ghost use Rattle.point.specs.inside.Near.{Near};
 ghost use Rattle.corners.specs.Corners.{vector, before, behind, into, outOf, sharp};
 ghost use Rattle.corners.specs.Sizes.{Short, Moderate};
 use crate::Pair;

@@ -23,7 +23,7 @@ use Rattle.util.specs.Ratios.{outsideOf, insideOf, coincideOf}
 use Rattle.util.specs.declared.ratios.Intersection.{Intersection}
 use Rattle.util.specs.declared.ratios.Intersection.the-variants as Case
 use Rattle.frames.specs.Answer.{answerTo}
-use Rattle.util.specs.Measures.{middleOf, normOf, normOfI32}
+use Rattle.util.specs.Lengths.{middleOf, normOf, normOfI32}
 use Rattle.point.specs.Points.{pointAt}
 use Rattle.pbm.specs.Calls.{readOf, writtenOf}
 use Rattle.reduce.specs.Reduce.{radialOf, douglasPeuckerOf, reduceOf, numberedOf, zoomOf}

@@ -17,7 +17,7 @@ use Rattle.chart.specs.Answers.{cellsNumber, cellsCount}
 use Rattle.chart.specs.declared.Cells.{Cells}
 use Rattle.chart.specs.declared.Start.{Start}
 use Rattle.chart.specs.declared.Start.the-variants as Start
-use Rattle.util.specs.Measures.{normOfI32}
+use Rattle.util.specs.Lengths.{normOfI32}
 use Rattle.util.specs.declared.Measure.{Measure}
 use Rattle.util.specs.declared.Measure.the-variants as Measure
 use Rattle.util.specs.declared.MidPoint.{MidPoint}

@@ -2,7 +2,7 @@
 ghost use mathlib.Core.Path.{_≡_};
 ghost use lib.Ieee.{binary64, ofBits, toBits};
 ghost use Rattle.point.specs.Points.{pointAt};
-ghost use Rattle.util.specs.Measures.{middleOf, normOf, normOfI32};
+ghost use Rattle.util.specs.Lengths.{middleOf, normOf, normOfI32};
 ghost use Rattle.sqrt.specs.Root.{rootOf};
 ghost use Rattle.util.specs.Area.{signedAreaOf};
 ghost use Rattle.sandline_c.specs.Handed.{signed, midway, measured};

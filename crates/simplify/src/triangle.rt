@@ -2,7 +2,7 @@
 ghost use Prim.Native.Nat.{_≤_};
 ghost use mathlib.Core.Path.{_≡_};
 ghost use lib.IntN.{natAbs, _-ℤ_};
-ghost use Rattle.util.specs.Near.{Near};
+ghost use Rattle.point.specs.inside.Near.{Near};
 ghost use Rattle.simplify.specs.Penalties.{sq, side, heron, penalty};
 use point::PointI32;
 

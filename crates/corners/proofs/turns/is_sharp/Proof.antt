@@ -9,7 +9,7 @@ use Rattle.point.specs.Limits.{badPoints}
 use Rattle.point.specs.declared.PointI32.{PointI32}
 use Rattle.point.proofs.Claims.{coordinates-fit}
 use Rattle.point.specs.Points.{pointAt}
-use Rattle.util.specs.Near.{Near}
+use Rattle.point.specs.inside.Near.{Near}
 use Rattle.corners.specs.declared.Pair.{Pair}
 use Rattle.corners.specs.Corners.{vector, before, behind, into, outOf, sharp}
 use Rattle.corners.proofs.turns.is_sharp.Statement.{statement}

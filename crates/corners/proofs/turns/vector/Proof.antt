@@ -6,7 +6,7 @@ use mir.Val.{ofZ, toZ}
 use lib.IntN.{ℤ, natAbs, _-ℤ_}
 use borrow.Author.Needs.{needs}
 use Rattle.point.specs.declared.PointI32.{PointI32}
-use Rattle.util.specs.Near.{Near}
+use Rattle.point.specs.inside.Near.{Near}
 use Rattle.util.proofs.ByBits.{by-bits, x-by-bits, y-by-bits}
 use Rattle.corners.specs.Corners.{vector}
 use Rattle.corners.specs.Sizes.{Short}
