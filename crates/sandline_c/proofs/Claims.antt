@@ -27,7 +27,9 @@ use Rattle.util.specs.Lengths.{middleOf, normOf, normOfI32}
 use Rattle.point.specs.Points.{pointAt}
 use Rattle.pbm.specs.Calls.{readOf, writtenOf}
 use Rattle.reduce.specs.Reduce.{radialOf, douglasPeuckerOf, reduceOf, numberedOf, zoomOf}
-use Rattle.simplify.specs.Simplify.{staircaseOf, penaltiesOf, simplifyOf}
+use Rattle.simplify.specs.Penalties.{penaltiesOf}
+use Rattle.simplify.specs.Simplify.{simplifyOf}
+use Rattle.simplify.specs.Staircase.{staircaseOf}
 use Rattle.smooth.specs.Calls.{subdividedOf}
 use Rattle.spiral.specs.Spiral.{freshSpiral, advanced}
 use Rattle.spiral.specs.declared.SpiralWalker.{SpiralWalker}

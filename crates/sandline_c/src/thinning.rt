@@ -1,6 +1,8 @@
 // Simplification, reduction, and the numbers that zooms go by.
 ghost use mathlib.Core.Path.{_≡_};
-ghost use Rattle.simplify.specs.Simplify.{staircaseOf, penaltiesOf, simplifyOf};
+ghost use Rattle.simplify.specs.Penalties.{penaltiesOf};
+ghost use Rattle.simplify.specs.Simplify.{simplifyOf};
+ghost use Rattle.simplify.specs.Staircase.{staircaseOf};
 ghost use Rattle.reduce.specs.Reduce.{radialOf, douglasPeuckerOf, reduceOf, numberedOf, zoomOf};
 ghost use Rattle.sandline_c.specs.Handed.{passed, points as handedPoints, numbered, marked, reduced};
 use crate::handing::hand;

@@ -17,8 +17,9 @@ use Rattle.chart.specs.declared.Chart.{Chart}
 use Rattle.walker.specs.Walk.{walked}
 use Rattle.walker.specs.declared.Walked.the-variants as Walked
 use Rattle.spiral.specs.Spiral.{pointsOf, spiralPoints}
-use Rattle.simplify.specs.Penalties.{penalty}
-use Rattle.simplify.specs.Simplify.{staircaseOf, penaltiesOf, simplifyOf}
+use Rattle.simplify.specs.Penalties.{penalty, penaltiesOf}
+use Rattle.simplify.specs.Simplify.{simplifyOf}
+use Rattle.simplify.specs.Staircase.{staircaseOf}
 use Rattle.split.specs.Distance.{sqSegDist}
 use Rattle.reduce.specs.Distance.{sqDist}
 use Rattle.reduce.specs.Reduce.{radialOf, douglasPeuckerOf, reduceOf, numberedOf}

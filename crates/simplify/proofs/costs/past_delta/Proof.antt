@@ -1,4 +1,4 @@
--- `penalties::past_delta` meets its contract. The loop's invariant: whether one of the penalties from `k` on reaches the tolerance is what the
+-- `past_delta` meets its contract. The loop's invariant: whether one of the penalties from `k` on reaches the tolerance is what the
 -- greatest of all says. Assumes nothing.
 use Prim.Native.Nat.{ℕ, suc, _+_, _-_, _<_, _≤_}
 use mathlib.Core.Bool.{Bool, true, false}

@@ -1,4 +1,4 @@
--- `staircase::keep_outward` meets its contract. The loop's invariant: what stays of the points from `i` on completes what stays of all; and
+-- `keep_outward` meets its contract. The loop's invariant: what stays of the points from `i` on completes what stays of all; and
 -- `before` is the point before them in the list. Assumes nothing.
 use Prim.Native.Nat.{ℕ, _+_, _-_, _*_, _<_, _≤_}
 use mathlib.Core.Bool.{Bool, true, false}

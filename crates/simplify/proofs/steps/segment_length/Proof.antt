@@ -1,4 +1,4 @@
--- `staircase::segment_length` meets its contract: the sizes of the two differences. Assumes nothing.
+-- `segment_length` meets its contract: the sizes of the two differences. Assumes nothing.
 use Prim.Native.Nat.{ℕ, _+_, _≤_}
 use mathlib.Core.Path.{_≡_}
 use mir.Syntax.{w32}

@@ -1,4 +1,4 @@
--- `penalties::side` meets its contract: the root of the sum of two squares. Assumes nothing.
+-- `side` meets its contract: the root of the sum of two squares. Assumes nothing.
 use Prim.Native.Nat.{_≤_}
 use mathlib.Core.Path.{_≡_}
 use mir.Syntax.{w32}

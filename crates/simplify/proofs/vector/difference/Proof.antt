@@ -1,8 +1,8 @@
--- `staircase::difference` meets its contract: within the limits the difference fits. Assumes nothing.
+-- `difference` meets its contract: within the limits the difference fits. Assumes nothing.
 use borrow.Author.Needs.{needs}
 use Rattle.laws.proofs.Integers.{signed-laws}
-use Rattle.simplify.proofs.steps.difference.Statement.{statement}
-use Rattle.simplify.proofs.steps.difference.Tie as tie
+use Rattle.simplify.proofs.vector.difference.Statement.{statement}
+use Rattle.simplify.proofs.vector.difference.Tie as tie
 
 ruleset laws = (signed-laws, needs)
 
