@@ -22,6 +22,3 @@ module _ (list : List ℤ) (good : badPoints list ≡ false) (p : PointI32) (k :
 
   pub limit-y : natAbs (p .y) ≤ 16383
   limit-y = rw e (coordinates-fit list good (k * 2 + 1))
-
-  pub near : Near p
-  near = record { across = limit-x; down = limit-y }

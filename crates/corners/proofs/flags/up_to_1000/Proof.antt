@@ -1,4 +1,4 @@
--- `corners::within` meets its contract: its two tests, joined. Assumes nothing.
+-- `up_to_1000` meets its contract: its two tests, joined. Assumes nothing.
 use mathlib.Core.Bool.{true, false, _&&_}
 use mathlib.Core.Path.{_≡_}
 use mir.Syntax.{w32}
@@ -8,8 +8,8 @@ use lib.IntN.{ℤ, pos}
 use lib.Signed.{leZ}
 use borrow.Author.Needs.{needs}
 use Rattle.laws.proofs.Joined.{and-itself, and-second}
-use Rattle.corners.proofs.flags.within.Statement.{statement}
-use Rattle.corners.proofs.flags.within.Tie as tie
+use Rattle.corners.proofs.flags.up_to_1000.Statement.{statement}
+use Rattle.corners.proofs.flags.up_to_1000.Tie as tie
 
 -- a number is handed on by its bits
 module _ (low v : ℤ) (fl : SFits w32 low) (fv : SFits w32 v) where
@@ -24,8 +24,8 @@ module _ (low v : ℤ) (fl : SFits w32 low) (fv : SFits w32 v) where
 
 ruleset laws = (above, below, needs)
 
-pub within-spec : {M : Type 1} → statement M
-within-spec =
+pub up-to-1000-spec : {M : Type 1} → statement M
+up-to-1000-spec =
     tie.close
     (tie.spec
     (λ c. search laws)  -- returns
