@@ -141,14 +141,18 @@ coordinates-fit xs good k =
 
 -- ---- a refusal changes nothing, whatever was lent
 
+-- where what is done is no refusal, by whatever answer
+pub refusal-leaves-all : {A B : Type 0} (refused : Refusal → A) (o : Option Refusal) (old : B) (done : Outcome A B) (r : Refusal) →
+    (done .answer ≡ refused r → ⊥) → outcome refused o old done .answer ≡ refused r → outcome refused o old done .out ≡ old
+unfolding outcome
+refusal-leaves-all refused (some q) old done r never e = refl
+refusal-leaves-all refused none old done r never e = absurd (never e)
+
 pub refusal-changes-nothing : {B : Type 0} (o : Option Refusal) (old : B) (done : Outcome Answer B) (n : ℕ) → done .answer ≡ Done n →
     (r : Refusal) → outcome Refused o old done .answer ≡ Refused r → outcome Refused o old done .out ≡ old
-unfolding outcome
-refusal-changes-nothing (some q) old done n d r e = refl
-refusal-changes-nothing none old done n d r e =
-    let f : Done n ≡ Refused r = sym d ∙ e in
-    let z : _≡_ {A = ℕ} 0 1 = cc in
-    absurd (omega arith)
+refusal-changes-nothing o old done n d r =
+    refusal-leaves-all Refused o old done r
+    (λ e. let f : Done n ≡ Refused r = sym d ∙ e in let z : _≡_ {A = ℕ} 0 1 = cc in omega arith)
 
 -- ---- a call that hands out points for a list of points
 

@@ -9,18 +9,18 @@ use mir.Val.{SFits, ofZ, toZ}
 use lib.Ieee.{Float}
 use lib.IntN.{ℤ}
 use borrow.Author.Needs.{needs}
+use Rattle.laws.specs.Outcome.{Outcome}
 use Rattle.point.specs.Refusals.{refusalNumber, numberOf, countOf}
 use Rattle.point.specs.declared.refusal.Answer.{Answer}
 use Rattle.point.specs.declared.refusal.Refusal.{Refusal}
 use Rattle.chart.specs.Pixels.{pixelAt}
 use Rattle.chart.specs.declared.Chart.{Chart}
-use Rattle.corners.specs.Calls.{Outcome as Flagged, findCornersOf}
+use Rattle.corners.specs.Calls.{findCornersOf}
 use Rattle.point.specs.Outcomes.{Points as Passed}
 use Rattle.pbm.specs.Calls.{Outcome as Read, Written}
 use Rattle.pbm.specs.declared.Picture.{Picture}
 use Rattle.pbm.specs.declared.Picture.the-variants as Picture
 use Rattle.reduce.specs.Reduce.{Points, Numbered, Marked, Reduced}
-use Rattle.smooth.specs.Calls.{Outcome as Round}
 use Rattle.smooth.specs.declared.Subdivided.{Subdivided}
 use Rattle.smooth.specs.declared.Subdivided.the-variants as Subdivided
 use Rattle.walker.specs.Answers.{walkedNumber, walkedCount}
@@ -48,7 +48,7 @@ pub numbered-told : (a : Answer) (n : ℕ) (k : List ℕ) (out : List Float) (o 
 unfolding numbered
 numbered-told a n k out o e p q = told a n k out p q ∙ ap numbered e
 
-pub flagged-told : (a : Answer) (n : ℕ) (k : List ℕ) (flags : List ℕ) (o : Flagged) → record { answer = a; flags = flags } ≡ o → n ≡ numberOf a → k ≡ countOf a ∷ [] →
+pub flagged-told : (a : Answer) (n : ℕ) (k : List ℕ) (flags : List ℕ) (o : Outcome Answer (List ℕ)) → record { answer = a; out = flags } ≡ o → n ≡ numberOf a → k ≡ countOf a ∷ [] →
     record { number = n; count = k; buffers = flags } ≡ flagged o
 unfolding flagged
 flagged-told a n k flags o e p q = told a n k flags p q ∙ ap flagged e
@@ -84,7 +84,7 @@ outlined : (a : Walked) (n k : ℕ) (out : List ℤ) (o : Walk) → record { ans
 unfolding walked
 outlined a n k out o e p q = rw (p, q) (ap walked e)
 
-module _ (a : Subdivided) (out : List Float) (flags : List ℕ) (o : Round) (e : record { answer = a; out = out; flags = flags } ≡ o) (old : List Bool) where
+module _ (a : Subdivided) (out : List Float) (flags : List ℕ) (o : Outcome Subdivided (List Float × List ℕ)) (e : record { answer = a; out = (out, flags) } ≡ o) (old : List Bool) where
   pub round-done : (n : ℕ) (finished : Bool) → a ≡ Subdivided.Done n finished →
       record { number = 0; count = n ∷ []; buffers = (out, flags, finished ∷ []) } ≡ subdivided o old
   unfolding subdivided
@@ -104,7 +104,7 @@ pub walk-told : (a : Walked) (n k : ℕ) (out old : List ℤ) (c : Chart) (pixel
 walk-told a n k out old c pixels x y clockwise e p q fx fy = outlined a n k out _ (e ∙ rw (toZ-ofZ fx, toZ-ofZ fy)) p q
 
 pub corners-told : (a : Answer) (n : ℕ) (k : List ℕ) (flags old : List ℕ) (list : List ℤ) (c s : ℤ) (closed : Bool) →
-    record { answer = a; flags = flags } ≡ findCornersOf list (pair (toZ w32 (ofZ w32 c)) (toZ w32 (ofZ w32 s))) closed old →
+    record { answer = a; out = flags } ≡ findCornersOf list (pair (toZ w32 (ofZ w32 c)) (toZ w32 (ofZ w32 s))) closed old →
     n ≡ numberOf a → k ≡ countOf a ∷ [] → SFits w32 c → SFits w32 s →
     record { number = n; count = k; buffers = flags } ≡ flagged (findCornersOf list (pair c s) closed old)
 corners-told a n k flags old list c s closed e p q fc fs =

@@ -6,12 +6,12 @@ use lib.Ieee.{Float}
 use lib.IntN.{ℤ}
 use lib.ListN.{length}
 use Rattle.laws.specs.Lists.{over}
+use Rattle.laws.specs.Outcome.{Outcome}
 use Rattle.point.specs.Refusals.{numberOf, countOf}
 use Rattle.point.specs.declared.refusal.Answer.{Answer}
 use Rattle.chart.specs.Answers.{cellsNumber, cellsCount, startNumber, startValues}
 use Rattle.chart.specs.declared.Cells.{Cells}
 use Rattle.chart.specs.declared.Start.{Start}
-use Rattle.corners.specs.Calls.{Outcome as Flagged}
 use Rattle.util.specs.Answers.{intersectionNumber, intersectionValues, midPointNumber, midPointValues, measureNumber, measureValues, signedNumber, signedValues}
 use Rattle.util.specs.declared.ratios.Intersection.{Intersection}
 use Rattle.util.specs.declared.Measure.{Measure}
@@ -23,7 +23,6 @@ use Rattle.pbm.specs.declared.Picture.{Picture}
 use Rattle.pbm.specs.declared.Picture.the-variants as Picture
 use Rattle.reduce.specs.Reduce.{Points, Numbered, Marked, Reduced}
 use Rattle.smooth.specs.Answers.{subdividedNumber, subdividedCount}
-use Rattle.smooth.specs.Calls.{Outcome as Round}
 use Rattle.smooth.specs.declared.Subdivided.{Subdivided}
 use Rattle.smooth.specs.declared.Subdivided.the-variants as Subdivided
 use Rattle.spiral.specs.Answers.{freshNumber, advancedNumber, advancedValues}
@@ -58,8 +57,8 @@ points o = counted (o .answer) (o .out)
 unfoldable pub numbered : Numbered → Counted (List Float)
 numbered o = counted (o .answer) (o .out)
 
-unfoldable pub flagged : Flagged → Counted (List ℕ)
-flagged o = counted (o .answer) (o .flags)
+unfoldable pub flagged : Outcome Answer (List ℕ) → Counted (List ℕ)
+flagged o = counted (o .answer) (o .out)
 
 unfoldable pub marked : Marked → Counted (List ℤ × List ℕ)
 marked o = counted (o .answer) (o .out, o .marks)
@@ -99,11 +98,11 @@ abbrev pub finishedOr : Subdivided → List Bool → List Bool
 finishedOr (Subdivided.Done n finished) old = finished ∷ []
 finishedOr (Subdivided.Refused r) old = old
 
-unfoldable pub subdivided : Round → List Bool → Counted (List Float × List ℕ × List Bool)
+unfoldable pub subdivided : Outcome Subdivided (List Float × List ℕ) → List Bool → Counted (List Float × List ℕ × List Bool)
 subdivided o finished = record {
   number = subdividedNumber (o .answer);
   count = subdividedCount (o .answer) ∷ [];
-  buffers = (o .out, o .flags, finishedOr (o .answer) finished);
+  buffers = (o .out .0, o .out .1, finishedOr (o .answer) finished);
 }
 
 -- the values of a crossing over the start of the array, and how many they are

@@ -1,13 +1,13 @@
--- `round_refusals::bad_settings` meets its contract. Its limits are those of the definition: antt computes both. Assumes nothing.
+-- `bad_settings` meets its contract. Its limits are those of the definition: antt computes both. Assumes nothing.
 use mathlib.Core.Bool.{Bool, true, false, not}
 use mathlib.Core.Path.{_≡_}
 use lib.Ieee.{binary64, ofBits, ofInt}
 use borrow.Author.Needs.{needs}
 use Rattle.point.specs.Limits.{within}
 use Rattle.smooth.specs.declared.scheme.Settings.{Settings}
-use Rattle.smooth.specs.Judged.{badSettings}
-use Rattle.smooth.proofs.tests.bad_settings.Statement.{statement}
-use Rattle.smooth.proofs.tests.bad_settings.Tie as tie
+use Rattle.smooth.specs.Calls.{badSettings}
+use Rattle.smooth.proofs.refusals.bad_settings.Statement.{statement}
+use Rattle.smooth.proofs.refusals.bad_settings.Tie as tie
 
 module _ (settings : Settings) (r : Bool) (says : r ≡ within (ofBits binary64 0x3ff0000000000000) (settings .ratio) (ofBits binary64 0x408f400000000000)) where
   out : not r ≡ true → true ≡ badSettings settings

@@ -1,4 +1,4 @@
--- `round_refusals::all_flags` meets its contract. The loop's invariant: what the flags from `i` on say is what all say. Assumes nothing.
+-- `all_flags` meets its contract. The loop's invariant: what the flags from `i` on say is what all say. Assumes nothing.
 use Prim.Native.Nat.{ℕ, _+_, _-_, _<_, _≤_}
 use mathlib.Core.Bool.{Bool, true, false, not}
 use mathlib.Core.List.{List}
@@ -9,9 +9,9 @@ use lib.Seq.{drop-cons}
 use borrow.Author.Needs.{needs}
 use borrow.Author.Tests.{not-true, not-false}
 use Rattle.point.specs.Limits.{every}
-use Rattle.smooth.specs.Judged.{isFlag}
-use Rattle.smooth.proofs.tests.all_flags.Statement.{statement}
-use Rattle.smooth.proofs.tests.all_flags.Tie as tie
+use Rattle.smooth.specs.Calls.{isFlag}
+use Rattle.smooth.proofs.refusals.all_flags.Statement.{statement}
+use Rattle.smooth.proofs.refusals.all_flags.Tie as tie
 
 abbrev Inv-loop : tie.InvT-loop
 Inv-loop corners i₀ i = (i ≤ length corners) × (every isFlag corners ≡ every isFlag (drop i corners))

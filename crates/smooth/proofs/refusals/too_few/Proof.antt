@@ -1,8 +1,8 @@
--- `round_refusals::too_few` meets its contract: its two tests, joined. Assumes nothing.
+-- `too_few` meets its contract: its two tests, joined. Assumes nothing.
 use borrow.Author.Needs.{needs}
 use Rattle.laws.proofs.Joined.{and-itself, and-second}
-use Rattle.smooth.proofs.tests.too_few.Statement.{statement}
-use Rattle.smooth.proofs.tests.too_few.Tie as tie
+use Rattle.smooth.proofs.refusals.too_few.Statement.{statement}
+use Rattle.smooth.proofs.refusals.too_few.Tie as tie
 
 ruleset laws = (and-itself, and-second, needs)
 
