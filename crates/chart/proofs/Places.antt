@@ -15,7 +15,8 @@ use borrow.Author.Tests.{le-leb, lt-leb, lt-ltb, leb-true, ltb-true, not-true, n
 use Rattle.laws.proofs.Joined.{both-true}
 use Rattle.laws.proofs.Bits.{digit-is}
 use Rattle.chart.specs.declared.Chart.{Chart}
-use Rattle.chart.specs.Pixels.{rowBytes, bitAt, cell, inside, pixelAt, one, pairOf, aroundOf, surrounded}
+use Rattle.chart.specs.Pixels.{rowBytes, cell, hasPixel, pixelAt, one, aroundOf}
+use Rattle.chart.specs.inside.Around.{bitAt, pairOf, surrounded}
 use Rattle.chart.proofs.Outside.{minus-one, above}
 use Rattle.chart.proofs.Sizes.{within}
 
@@ -57,7 +58,7 @@ module _ (c : Chart) (pixels : List ℕ) (x y : ℕ) where
       let q : (y * (rowBytes (c .width) * 8) + x) % 8 ≡ x % 8 = omega arith in
       rw (p, q)
 
-  module _ (r : Bool) (says : r ≡ inside c x y) where
+  module _ (r : Bool) (says : r ≡ hasPixel c x y) where
     pub outside : not r ≡ true → false ≡ pixelAt c pixels (pos x) (pos y)
     unfolding pixelAt
     outside e = rw (← says, not-true r e)
@@ -86,7 +87,7 @@ module _ (c : Chart) (pixels : List ℕ) (x y : ℕ) where
   unfolding surrounded
   no-top h k = rw (le-leb 1 x h, lt-leb 1 y k)
 
-  module _ (left : 1 ≤ x) (top : 1 ≤ y) (r : Bool) (says : r ≡ inside c x y) where
+  module _ (left : 1 ≤ x) (top : 1 ≤ y) (r : Bool) (says : r ≡ hasPixel c x y) where
     pub not-inside : not r ≡ true → false ≡ surrounded c pixels x y
     unfolding surrounded
     not-inside e = rw (le-leb 1 x left, le-leb 1 y top, ← says, not-true r e)
@@ -100,10 +101,10 @@ module _ (c : Chart) (pixels : List ℕ) (x y : ℕ) where
     parts : (1 ≤ x) × (1 ≤ y) × (c .width ≤ 512) × (x < c .width) × (y < c .height) × ((y * (rowBytes (c .width) * 8) + x) / 8 < length pixels)
     unfolding surrounded
     parts =
-        let p = both-true (leb 1 x && leb 1 y && inside c x y) _ all in
-        let q = both-true (leb 1 x && leb 1 y) (inside c x y) (p .0) in
+        let p = both-true (leb 1 x && leb 1 y && hasPixel c x y) _ all in
+        let q = both-true (leb 1 x && leb 1 y) (hasPixel c x y) (p .0) in
         let s = both-true (leb 1 x) (leb 1 y) (q .0) in
-        let i = within c x y (inside c x y) refl (ap not (q .1)) in
+        let i = within c x y (hasPixel c x y) refl (ap not (q .1)) in
         (leb-true 1 x (s .0), leb-true 1 y (s .1), i .0, i .1, i .2, ltb-true _ _ (p .1))
 
     pub parts-narrow : c .width ≤ 512

@@ -16,7 +16,7 @@ use Rattle.laws.specs.Lists.{over}
 use Rattle.laws.proofs.Lists.{over-push}
 use Rattle.chart.specs.Pixels.{rowBytes, bitOf, cell, one}
 use Rattle.chart.specs.declared.Chart.{Chart}
-use Rattle.chart.proofs.Digits.{digit}
+use Rattle.chart.proofs.OneByte.{digit}
 use Rattle.chart.proofs.Places.{one-le}
 use Rattle.pbm.specs.Bytes.{packed, byteAt, listed, chartBytes}
 use Rattle.pbm.proofs.RowByRow.{place-column, place-row, place-below}

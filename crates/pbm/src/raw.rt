@@ -8,12 +8,12 @@ ghost use Rattle.chart.specs.Pixels.{rowBytes, side, cell};
 ghost use Rattle.pbm.specs.Bytes.{chartBytes};
 use chart::Chart;
 
-// How many bytes a chart takes.
+// How many bytes a chart in range takes.
 pub(crate) fn all_bytes(chart: Chart) -> usize
     requires { ⌜ (side (chart .width) ≡ true) × (side (chart .height) ≡ true) ⌝ }
     ensures { λ r. ⌜ r ≡ rowBytes (chart .width) * chart .height ⌝ }
 {
-    chart::row_bytes(chart.width) * chart.height
+    chart::all_bytes(chart)
 }
 
 // Copies a chart's rows, from the start of `pixels` to a place of `out`: all bytes as they are, and then the

@@ -1,6 +1,6 @@
 // A picture read into a chart.
 ghost use Prim.Native.Nat.{_*_, _≤_};
-ghost use mathlib.Core.Bool.{true, not, _||_};
+ghost use mathlib.Core.Bool.{true};
 ghost use mathlib.Core.Path.{_≡_};
 ghost use lib.ListN.{length, drop};
 ghost use Rattle.laws.specs.Lists.{over};
@@ -36,7 +36,7 @@ fn read_behind(file: &[u8], head: Header, pixels: &mut [u8]) -> Picture
     ensures { λ r. ⌜ record { answer = r; pixels = now (pixels .exit) } ≡ readBehind (now (file .entry)) (headerAt (now (file .entry)) head) (now (pixels .entry)) ⌝ }
 {
     let chart = head.chart;
-    if bad_sides(chart) {
+    if chart::bad_sides(chart) {
         return Picture::Refused(Refusal::BadSize);
     }
     let Place::At(from) = raster(file, head.end) else {
@@ -50,12 +50,6 @@ fn read_behind(file: &[u8], head: Header, pixels: &mut [u8]) -> Picture
     }
     lay(file, from, head.plain, chart, pixels);
     Picture::Read { chart, bytes: end }
-}
-
-fn bad_sides(chart: Chart) -> bool
-    ensures { λ r. ⌜ r ≡ (not (side (chart .width)) || not (side (chart .height))) ⌝ }
-{
-    !(chart::side(chart.width) & chart::side(chart.height))
 }
 
 // The place behind the image; nowhere, if it is not whole.

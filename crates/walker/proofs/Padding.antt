@@ -15,7 +15,7 @@ use Rattle.point.specs.declared.PointI32.{PointI32}
 use Rattle.point.specs.Refusals.{refuse_when_or_}
 use Rattle.point.specs.declared.refusal.Refusal.{Refusal}
 use Rattle.point.specs.declared.refusal.Refusal.the-variants.{BadSize, BadPoint}
-use Rattle.chart.specs.Pixels.{side, rowBytes, badChart, bitOf, cell, one, inside, pixelAt}
+use Rattle.chart.specs.Pixels.{side, rowBytes, badChart, bitOf, cell, one, hasPixel, pixelAt}
 use Rattle.chart.specs.Area.{rowArea, rowsArea, areaAnswer, areaOf}
 use Rattle.chart.specs.Start.{firstInRow, orElse, firstInRows, startOr, startAnswer, firstStart}
 use Rattle.chart.specs.declared.Chart.{Chart}
@@ -76,9 +76,9 @@ module _ (c : Chart) (p q : List ℕ) (same : SamePixels c p q) where
 
   pub padding-is-not-read-pixel : (x y : ℤ) → pixelAt c p x y ≡ pixelAt c q x y
   unfolding pixelAt
-  padding-is-not-read-pixel (pos x) (pos y) = go (inside c x y) refl
+  padding-is-not-read-pixel (pos x) (pos y) = go (hasPixel c x y) refl
     where
-      go : (r : Bool) → inside c x y ≡ r → (r && cell c p x y) ≡ (r && cell c q x y)
+      go : (r : Bool) → hasPixel c x y ≡ r → (r && cell c p x y) ≡ (r && cell c q x y)
       go true e = let w = within c x y true (sym e) refl in same .pixels x y (w .1) (w .2)
       go false e = refl
   padding-is-not-read-pixel (pos x) (negsuc y) = refl

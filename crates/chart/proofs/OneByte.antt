@@ -14,8 +14,9 @@ use lib.ListN.{getD}
 use lib.Pow.{shr-shr, pow-mono}
 use Rattle.laws.specs.Bits.{setBits}
 use Rattle.laws.proofs.Bits.{ones-is, ones-first}
-use Rattle.chart.specs.Pixels.{bitOf, bitAt, one}
-use Rattle.chart.specs.Start.{FirstBit}
+use Rattle.chart.specs.Pixels.{bitOf, one}
+use Rattle.chart.specs.inside.Around.{bitAt}
+use Rattle.chart.specs.inside.Rows.{FirstBit}
 
 -- a binary digit, tested and turned back into a number, is itself
 pub digit : (n : ℕ) → one (eqb (n % 2) 1) ≡ n % 2

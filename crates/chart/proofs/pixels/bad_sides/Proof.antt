@@ -1,11 +1,11 @@
--- `pbm::read::bad_sides` meets its contract: not both sides are good, if one of them is not. Assumes nothing.
+-- `chart::pixels::bad_sides` meets its contract: not both sides are good, if one of them is not. Assumes nothing.
 use Prim.Native.Nat.{ℕ}
 use mathlib.Core.Bool.{Bool, true, false, not, _&&_, _||_}
 use mathlib.Core.Path.{_≡_, refl}
 use borrow.Author.Needs.{needs}
 use Rattle.chart.specs.Pixels.{side}
-use Rattle.pbm.proofs.read.bad_sides.Statement.{statement}
-use Rattle.pbm.proofs.read.bad_sides.Tie as tie
+use Rattle.chart.proofs.pixels.bad_sides.Statement.{statement}
+use Rattle.chart.proofs.pixels.bad_sides.Tie as tie
 
 not-both : (a b : Bool) → not (a && b) ≡ (not a || not b)
 not-both true b = refl

@@ -12,7 +12,8 @@ use lib.Dec.{T}
 use lib.IntN.{ℤ, pos, negsuc, natAbs, _-ℤ_}
 use lib.Signed.{ltZ, nonNeg}
 use Rattle.chart.specs.declared.Chart.{Chart}
-use Rattle.chart.specs.Pixels.{pixelAt, one, pairOf, aroundOf}
+use Rattle.chart.specs.Pixels.{pixelAt, one, aroundOf}
+use Rattle.chart.specs.inside.Around.{pairOf}
 use Rattle.chart.proofs.Outside.{minus-one, left-of, above, around-left-of, around-above-all}
 
 -- what the machine reads back from the bits
