@@ -3,7 +3,7 @@
 //
 // A chart is 1 to 512 pixels wide and high. Its pixels are lent beside it as bytes: rows from the
 // top, each padded to whole bytes, the leftmost pixel the highest bit. Padding changes no answer, nor
-// do bytes behind the last row (proved in walker/proofs/Padding).
+// do bytes behind the last row (proved in proofs/Padding).
 //
 // Each call is total and writes nothing.
 mod begin;

@@ -12,7 +12,7 @@ use lib.Ieee.{Float, binary64, ofInt, ofBits}
 use Rattle.point.specs.declared.PointI32.{PointI32}
 use Rattle.chart.specs.declared.Chart.{Chart}
 use Rattle.walker.specs.Answers.{walkedNumber, walkedCount}
-use Rattle.walker.specs.Walk.{Outcome as WalkOutcome, walked}
+use Rattle.walker.specs.Walk.{Outlined as WalkOutcome, walked}
 use Rattle.walker.specs.declared.Walked.{Walked}
 use Rattle.walker.specs.declared.Walked.the-variants as Walked
 use Rattle.walker.proofs.Claims.{fits}

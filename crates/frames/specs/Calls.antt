@@ -3,7 +3,7 @@ use Prim.Native.Nat.{ℕ, _*_}
 use mathlib.Core.List.{List}
 use lib.ListN.{take}
 use Rattle.walker.specs.Answers.{walkedNumber, walkedCount}
-use Rattle.walker.specs.Walk.{Outcome as Walked}
+use Rattle.walker.specs.Walk.{Outlined as Walked}
 use Rattle.frames.specs.Replies.{pointsText, numbersText}
 use Rattle.point.specs.Refusals.{numberOf, countOf}
 use Rattle.point.specs.Outcomes.{Points}

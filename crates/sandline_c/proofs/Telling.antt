@@ -24,7 +24,7 @@ use Rattle.smooth.specs.Calls.{Outcome as Round}
 use Rattle.smooth.specs.declared.Subdivided.{Subdivided}
 use Rattle.smooth.specs.declared.Subdivided.the-variants as Subdivided
 use Rattle.walker.specs.Answers.{walkedNumber, walkedCount}
-use Rattle.walker.specs.Walk.{Outcome as Walk, walked as walkOf}
+use Rattle.walker.specs.Walk.{Outlined as Walk, walked as walkOf}
 use Rattle.walker.specs.declared.Walked.{Walked}
 use Rattle.sandline_c.specs.Handed.{Counted, counted, passed, points, numbered, flagged, marked, reduced, walked, written, pictured, subdivided}
 use Rattle.sandline_c.specs.Read.{point, pair}

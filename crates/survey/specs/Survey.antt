@@ -31,16 +31,16 @@ use Rattle.survey.specs.declared.step.Turn.the-variants.{Read, Write}
 -- ---- the three lines of a chart: kinds 01, 02 and 04 of "Frames", each of what the line before it hands on
 
 -- The outline from a start, clockwise. A blank chart has no start, and so no way: 8 is for "first start of a blank chart" too.
-abbrev pub outlineFrom : Start → Chart → List ℕ → List ℤ → Walk.Outcome
+abbrev pub outlineFrom : Start → Chart → List ℕ → List ℤ → Walk.Outlined
 outlineFrom (Start.At p) c pixels out = Walk.walked c pixels p true out
 outlineFrom Start.NoWay c pixels out = record { answer = Walked.NoWay; out = out }
 outlineFrom (Start.Refused r) c pixels out = record { answer = Walked.Refused r; out = out }
 
-abbrev pub outlineOf : Chart → List ℕ → List ℤ → Walk.Outcome
+abbrev pub outlineOf : Chart → List ℕ → List ℤ → Walk.Outlined
 outlineOf c pixels out = outlineFrom (firstStart c pixels) c pixels out
 
 -- the points that a call hands on: "a refusal has count 0"
-abbrev pub outlined : Walk.Outcome → List ℤ
+abbrev pub outlined : Walk.Outlined → List ℤ
 outlined o = take (walkedCount (o .answer) * 2) (o .out)
 
 abbrev pub kept : Points → List ℤ

@@ -14,7 +14,7 @@ use Rattle.chart.specs.Pixels.{badChart}
 use Rattle.chart.specs.declared.Chart.{Chart}
 use Rattle.walker.specs.Walk.{samePoint, Walk, closed, no-way, stuck, after}
 use Rattle.walker.specs.inside.Course.{OnEdge, ranOn, rest, point, placeOf, counted}
-use Rattle.walker.specs.declared.Place.{Place}
+use Rattle.walker.specs.declared.run.Place.{Place}
 use Rattle.walker.proofs.course.Rest.{ran-facts, rest-is, judged-stuck, judged-closed, judged-on}
 use Rattle.walker.proofs.run.Running.{small}
 

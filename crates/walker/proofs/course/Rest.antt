@@ -12,7 +12,7 @@ use Rattle.chart.specs.Pixels.{badChart}
 use Rattle.chart.specs.declared.Chart.{Chart}
 use Rattle.walker.specs.Walk.{samePoint, Walk, closed, stuck, after}
 use Rattle.walker.specs.inside.Course.{OnEdge, ranOn, point, wentOn, rest}
-use Rattle.walker.specs.declared.Place.{Place}
+use Rattle.walker.specs.declared.run.Place.{Place}
 use Rattle.walker.proofs.course.Follow.{run-ends, judged, went-on}
 
 -- ---- the verdict after a run

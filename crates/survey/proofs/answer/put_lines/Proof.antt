@@ -10,7 +10,7 @@ use mir.Val.{Fits}
 use borrow.Author.Needs.{needs}
 use Rattle.chart.specs.declared.Chart.{Chart}
 use Rattle.walker.specs.Answers.{walkedNumber, walkedCount}
-use Rattle.walker.specs.Walk.{Outcome}
+use Rattle.walker.specs.Walk.{Outlined as Outcome}
 use Rattle.walker.specs.declared.Walked.{Walked}
 use Rattle.texts.specs.Put.{put}
 use Rattle.lines.specs.Turns.{line}

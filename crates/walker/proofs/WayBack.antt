@@ -11,7 +11,7 @@ use Rattle.chart.specs.Pixels.{pixelAt, aroundOf}
 use Rattle.chart.specs.declared.Chart.{Chart}
 use Rattle.walker.specs.Walk.{Pixels, Way, up, right, down, left, Walker, ahead, exit, order, samePoint, sameWay, atStart, moved, free, first, taken}
 use Rattle.walker.specs.inside.Course.{onward, firstExit}
-use Rattle.walker.proofs.Lattice.{opposite, step-back, one-way, never-here, two-are-not-one}
+use Rattle.walker.proofs.Steps.{opposite, step-back, one-way, never-here, two-are-not-one}
 use Rattle.walker.proofs.exits.Tables.{wayNo, Begins, first-cong, back-exit, way-on, way-in}
 
 pub record Came (w : Walker) (d : Way) : Type 0 where

@@ -1,5 +1,5 @@
 -- What `walk` answers, over plain values: its tests pick a line of the definition, and the walk by places is the walk. Assumes nothing.
-use Prim.Native.Nat.{ℕ, zero, suc, _+_, _*_, _/_, _^_, _≤_, _<_}
+use Prim.Native.Nat.{ℕ, zero, suc, _*_, _/_, _^_, _≤_, _<_}
 use mathlib.Core.Bool.{Bool, true, false, not, _&&_, true≢false}
 use mathlib.Core.List.{List, [], _∷_}
 use mathlib.Core.Option.{Option, some, none}
@@ -15,16 +15,17 @@ use lib.Signed.{mag}
 use borrow.Author.Needs.{sfits-of}
 use borrow.Author.Tests.{lt-ltb, le-ltb, not-true, not-false}
 use Rattle.point.specs.Limits.{inRange}
+use Rattle.point.specs.Outcomes.{outcome}
 use Rattle.point.specs.declared.PointI32.{PointI32}
 use Rattle.point.specs.declared.refusal.Refusal.the-variants.{BadSize, BadPoint, NoRoom}
 use Rattle.chart.specs.Pixels.{badChart, pixelAt, aroundOf}
 use Rattle.chart.specs.declared.Chart.{Chart}
-use Rattle.walker.specs.Walk.{Pixels, Way, up, right, down, left, exit, taken, atStart, follow, samePoint, Walk, closed, no-way, stuck, after, walkFrom, laid, ended, walked}
+use Rattle.walker.specs.Walk.{Pixels, Way, up, right, down, left, exit, taken, atStart, follow, samePoint, Walk, closed, no-way, stuck, after, walkFrom, ended, walked}
 use Rattle.walker.specs.inside.Course.{firstExit, OnEdge, wentOn, rest, point, placeOf, counted, HasRoom, written}
 use Rattle.walker.specs.declared.Walked.the-variants.{Done, NoWay, Stuck, Refused}
-use Rattle.walker.specs.declared.Place.{Place}
+use Rattle.walker.specs.declared.run.Place.{Place}
 use Rattle.walker.proofs.exits.Tables.{wayNo, Begins}
-use Rattle.walker.proofs.Came.{taken-first, along-stood}
+use Rattle.walker.proofs.WayBack.{taken-first, along-stood}
 use Rattle.walker.proofs.run.Runs.{placed}
 use Rattle.walker.proofs.course.Follow.{run-ends, follow-is, judged, went-on, on-edge}
 
@@ -103,17 +104,17 @@ module _ (start : PointI32) (out : List ℤ) (points : ℕ) where
   end-stuck stuck f e z = refl
 
   end-full : (w : Walk) → points ≡ counted 1 w → length out / 2 < points → record { answer = Refused NoRoom; out = out } ≡ ended (after start w) out
-  end-full (closed ps) e h = ap (laid (start ∷ ps) out) (sym (lt-ltb (length out) (suc (length ps) * 2) (omega arith)))
+  unfolding outcome
+  end-full (closed ps) e h = rw (lt-ltb (length out) (suc (length ps) * 2) (omega arith))
   end-full no-way e h = absurd (omega arith)
   end-full stuck e h = absurd (omega arith)
 
   end-done : (w : Walk) (last : List ℤ) → points ≡ counted 1 w → (points ≡ 0 → ⊥) → points ≤ length out / 2 → last ≡ written out start w →
       record { answer = Done points; out = last } ≡ ended (after start w) out
-  unfolding written
+  unfolding written outcome
   end-done (closed ps) last e f h l =
-      let n : 2 + length ps * 2 ≡ suc (length ps) * 2 = omega arith in
       let m : points ≡ suc (length ps) = omega arith in
-      rw (l, m, n) (ap (laid (start ∷ ps) out) (sym (le-ltb (length out) (suc (length ps) * 2) (omega arith))))
+      rw (l, m, le-ltb (length out) (suc (length ps) * 2) (omega arith))
   end-done no-way last e f h l = absurd (f e)
   end-done stuck last e f h l = absurd (f e)
 

@@ -16,7 +16,7 @@ use Rattle.chart.specs.declared.Chart.{Chart}
 use Rattle.chart.proofs.Outside.{left-of, right-of, above as above-all, below as below-all}
 use Rattle.chart.proofs.Rows.{good}
 use Rattle.walker.specs.Walk.{Way, up, right, down, left, ahead, differ, exit}
-use Rattle.walker.proofs.Lattice.{opposite}
+use Rattle.walker.proofs.Steps.{opposite}
 use Rattle.walker.proofs.exits.Tables.{back-exit}
 
 -- ---- the lattice

@@ -9,7 +9,7 @@ use Rattle.laws.proofs.Integers.{le-leZ, lt-leZ}
 use Rattle.laws.proofs.Ring.{add-pn, pn-le, pn-lt, leZ-true-pn, leZ-false-pn}
 use Rattle.point.specs.declared.PointI32.{PointI32}
 use Rattle.walker.specs.Walk.{Way, up, right, down, left, ahead, samePoint, sameWay}
-use Rattle.walker.proofs.Tests.{at-W, at-W2, at-W3, same, same-eq, fails}
+use Rattle.walker.proofs.AllCases.{at-W, at-W2, at-W3, same, same-eq, fails}
 
 abbrev pub opposite : Way → Way
 opposite up = down

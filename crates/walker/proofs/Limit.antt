@@ -1,6 +1,6 @@
 -- The step limit. Document 01 gives Stuck exactly when "after some run the walk has over 1,000,000 steps". Here this is said of runs alone, as
 -- many as there are and as long as they are: `run` and `follow` of `Walk` count down from 600 steps and 1,000,002 runs, and nothing here
--- does. The theorem `stuck-exactly` of proofs/Stuck says that a walk is stuck exactly where `TooLong` holds.
+-- does. The theorem `stuck-exactly` of `Stuck` says that a walk is stuck exactly where `TooLong` holds.
 use Prim.Native.Nat.{ℕ, suc, _≤_, _<_}
 use mathlib.Core.Bool.{Bool}
 use mathlib.Core.Option.{some}

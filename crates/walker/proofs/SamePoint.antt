@@ -15,7 +15,7 @@ use Rattle.laws.proofs.Ring.{≤ℤ-antisym}
 use Rattle.point.specs.declared.PointI32.{PointI32}
 use Rattle.walker.specs.Walk.{samePoint}
 use Rattle.walker.specs.inside.Course.{point}
-use Rattle.walker.specs.declared.Place.{Place}
+use Rattle.walker.specs.declared.run.Place.{Place}
 
 -- ---- the test
 
