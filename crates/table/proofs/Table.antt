@@ -16,7 +16,7 @@ use Rattle.chart.specs.Pixels.{badChart, pixelAt}
 use Rattle.chart.specs.declared.Chart.{Chart}
 use Rattle.walker.specs.Walk.{walked}
 use Rattle.walker.specs.declared.Walked.the-variants as Walked
-use Rattle.spiral.specs.Spiral.{pointsOf, spiralPoints}
+use Rattle.spiral.proofs.Whole.{pointsOf, spiralPoints}
 use Rattle.simplify.specs.Penalties.{penalty}
 use Rattle.simplify.specs.Simplify.{staircaseOf, penaltiesOf, simplifyOf}
 use Rattle.split.specs.Distance.{sqSegDist}
