@@ -17,8 +17,8 @@ use Rattle.chart.specs.Pixels.{badSides, badChart, rowBytes, bitOf, cell
 use Rattle.chart.specs.inside.Rows.{Good}
 use Rattle.chart.specs.Area.{rowArea, rowsArea}
 use Rattle.chart.proofs.OneByte.{digit}
-use Rattle.chart.proofs.Places.{one-le}
-use Rattle.chart.proofs.Sizes.{sides-most}
+use Rattle.chart.proofs.BitPlaces.{one-le}
+use Rattle.chart.proofs.Sizes.{width-within, height-within}
 
 -- ---- what is not refused is good
 
@@ -26,8 +26,7 @@ pub good : (c : Chart) (pixels : List ℕ) (r : Bool) → r ≡ badChart c pixel
 unfolding badChart
 good c pixels r says fine =
     let p = both-false (badSides c) _ (sym says ∙ fine) in
-    let q = sides-most c (p .0) in
-    record { wide = q .0; high = q .1; enough = ltb-false _ _ (p .1) }
+    record { wide = width-within c (p .0) .1; high = height-within c (p .0) .1; enough = ltb-false _ _ (p .1) }
 
 -- ---- a row's bytes
 

@@ -1,7 +1,7 @@
 -- What the tests of a chart's size say of it. Assumes nothing.
 use Prim.Native.Nat.{ℕ, _*_, _≤_, _<_}
-use mathlib.Core.Bool.{Bool, true, false, not, _&&_}
-use mathlib.Core.Path.{_≡_, refl, sym, _∙_}
+use mathlib.Core.Bool.{Bool, true, false, not, _&&_, _||_}
+use mathlib.Core.Path.{_≡_, sym, _∙_}
 use native.Mathlib.Nat.{mul-le-mul}
 use native.Mathlib.Omega.{arith}
 use mir.Syntax.{w64}
@@ -22,15 +22,11 @@ pub too-short : (n : ℕ) → n < 1 → leb 1 n ≡ side n
 unfolding side
 too-short n h = rw (lt-leb 1 n h)
 
-module _ (n : ℕ) (r : Bool) (says : r ≡ side n) (fine : not r ≡ false) where
-  pub side-within : (1 ≤ n) × (n ≤ 512)
-  unfolding side
-  side-within =
-      let p = both-true (leb 1 n) (leb n 512) (sym says ∙ not-false r fine) in
-      (leb-true 1 n (p .0), leb-true n 512 (p .1))
-
-  pub side-most : n ≤ 512
-  side-most = side-within .1
+pub side-within : (n : ℕ) → side n ≡ true → (1 ≤ n) × (n ≤ 512)
+unfolding side
+side-within n good =
+    let p = both-true (leb 1 n) (leb n 512) good in
+    (leb-true 1 n (p .0), leb-true n 512 (p .1))
 
 -- ---- a whole chart
 
@@ -41,11 +37,20 @@ bytes-fit w h b e p q =
     let l : b * h ≤ 64 * 512 = mul-le-mul k q in
     record { fits = omega arith }
 
--- both sides of a chart in range
-pub sides-most : (c : Chart) → badSides c ≡ false → (c .width ≤ 512) × (c .height ≤ 512)
-sides-most c fine =
-    let p = both-false (not (side (c .width))) (not (side (c .height))) fine in
-    (side-most (c .width) (side (c .width)) refl (p .0), side-most (c .height) (side (c .height)) refl (p .1))
+-- both sides of a chart in range are good
+module _ (w h : Bool) (fine : (not w || not h) ≡ false) where
+  pub good-width : w ≡ true
+  good-width = not-false w (both-false (not w) (not h) fine .0)
+
+  pub good-height : h ≡ true
+  good-height = not-false h (both-false (not w) (not h) fine .1)
+
+module _ (c : Chart) (fine : badSides c ≡ false) where
+  pub width-within : (1 ≤ c .width) × (c .width ≤ 512)
+  width-within = side-within (c .width) (good-width (side (c .width)) (side (c .height)) fine)
+
+  pub height-within : (1 ≤ c .height) × (c .height ≤ 512)
+  height-within = side-within (c .height) (good-height (side (c .width)) (side (c .height)) fine)
 
 module _ (c : Chart) (bad : Bool) (says : bad ≡ badSides c) where
   pub none-asked : bad ≡ true → 0 ≡ bytesAsked c
@@ -53,7 +58,7 @@ module _ (c : Chart) (bad : Bool) (says : bad ≡ badSides c) where
 
   module _ (e : bad ≡ false) (b : ℕ) (row : b ≡ rowBytes (c .width)) where
     pub asked-fits : Fits w64 (b * c .height)
-    asked-fits = let p = sides-most c (sym says ∙ e) in bytes-fit (c .width) (c .height) b row (p .0) (p .1)
+    asked-fits = bytes-fit (c .width) (c .height) b row (width-within c (sym says ∙ e) .1) (height-within c (sym says ∙ e) .1)
 
     pub all-asked : b * c .height ≡ bytesAsked c
     all-asked = rw (← says, e, row)

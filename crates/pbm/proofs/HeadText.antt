@@ -1,5 +1,5 @@
 -- The header of a picture: how long it is, and with it the picture, and that what is put part by part is its text. Assumes nothing.
-use Prim.Native.Nat.{ℕ, zero, suc, _+_, _*_, _/_, _%_, _^_, _≤_, _<_}
+use Prim.Native.Nat.{ℕ, zero, suc, _+_, _/_, _%_, _^_, _≤_, _<_}
 use mathlib.Core.Bool.{Bool, true, false}
 use mathlib.Core.List.{List, [], _∷_, _++_, append-assoc}
 use mathlib.Core.Path.{_≡_, refl, sym, ap, subst, _∙_}
@@ -12,15 +12,15 @@ use borrow.Author.Tests.{ltb-false}
 use Rattle.laws.specs.If.{if_then_else_}
 use Rattle.laws.specs.Lists.{over}
 use Rattle.laws.proofs.Lists.{length-over}
-use Rattle.chart.specs.Pixels.{side, rowBytes, cell}
+use Rattle.chart.specs.Pixels.{cell, allBytes, badSides}
 use Rattle.chart.specs.declared.Chart.{Chart}
+use Rattle.chart.proofs.Sizes.{width-within, height-within}
 use Rattle.texts.specs.Text.{glyphOf, decimalDigits, naturalText}
 use Rattle.texts.specs.Put.{Outcome, put}
 use Rattle.texts.proofs.Pieces.{put-fits, put-then, second-fits}
 use Rattle.pbm.specs.Bytes.{chartBytes}
-use Rattle.pbm.specs.Calls.{headText, pictureText}
+use Rattle.pbm.specs.Write.{headText, pictureText}
 use Rattle.pbm.proofs.Bytes.{length-chartBytes}
-use Rattle.pbm.proofs.Copied.{wide-within}
 
 -- ---- its length
 
@@ -40,16 +40,16 @@ digits-most (suc k) (suc most) n h = by-test (ltb n 10) (digits-most k most (n /
     by-test true l = omega arith
     by-test false l = omega (arith, length-append (decimalDigits most (n / 10)) (glyphOf (n % 10) ∷ []))
 
-side-digits : (n : ℕ) → side n ≡ true → length (naturalText n) ≤ 3
-side-digits n h = digits-most 2 20 n (omega (arith, wide-within n h))
+few-digits : (n : ℕ) → n ≤ 512 → length (naturalText n) ≤ 3
+few-digits n h = digits-most 2 20 n (omega arith)
 
 pub head-length : (c : Chart) → length (headText c) ≡ length (naturalText (c .width)) + length (naturalText (c .height)) + 5
 head-length c =
     length-append (80 ∷ 52 ∷ 10 ∷ naturalText (c .width) ++ (32 ∷ naturalText (c .height))) (10 ∷ [])
     ∙ omega (arith, length-append (80 ∷ 52 ∷ 10 ∷ naturalText (c .width)) (32 ∷ naturalText (c .height)))
 
-pub head-short : (c : Chart) → side (c .width) ≡ true → side (c .height) ≡ true → length (headText c) ≤ 11
-head-short c w h = omega (arith, head-length c, side-digits (c .width) w, side-digits (c .height) h)
+pub head-short : (c : Chart) → badSides c ≡ false → length (headText c) ≤ 11
+head-short c fine = omega (arith, head-length c, few-digits (c .width) (width-within c fine .1), few-digits (c .height) (height-within c fine .1))
 
 -- with the rows behind it
 module _ (c : Chart) (pixels : List ℕ) where
@@ -57,7 +57,7 @@ module _ (c : Chart) (pixels : List ℕ) where
   unfolding pictureText
   picture-is = refl
 
-  pub picture-length : length (pictureText c pixels) ≡ length (headText c) + rowBytes (c .width) * c .height
+  pub picture-length : length (pictureText c pixels) ≡ length (headText c) + allBytes c
   picture-length =
       ap length picture-is ∙ length-append (headText c) (chartBytes c (cell c pixels))
       ∙ ap (λ (n : ℕ). length (headText c) + n) (length-chartBytes c (cell c pixels))

@@ -25,7 +25,8 @@ use Rattle.util.specs.declared.ratios.Intersection.the-variants as Case
 use Rattle.frames.specs.Answer.{answerTo}
 use Rattle.util.specs.Measures.{middleOf, normOf, normOfI32}
 use Rattle.point.specs.Points.{pointAt}
-use Rattle.pbm.specs.Calls.{readOf, writtenOf}
+use Rattle.pbm.specs.Read.{readOf}
+use Rattle.pbm.specs.Write.{writtenOf}
 use Rattle.reduce.specs.Reduce.{radialOf, douglasPeuckerOf, reduceOf, numberedOf, zoomOf}
 use Rattle.simplify.specs.Simplify.{staircaseOf, penaltiesOf, simplifyOf}
 use Rattle.smooth.specs.Calls.{subdividedOf}

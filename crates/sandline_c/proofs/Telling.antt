@@ -16,7 +16,8 @@ use Rattle.chart.specs.Pixels.{pixelAt}
 use Rattle.chart.specs.declared.Chart.{Chart}
 use Rattle.corners.specs.Calls.{Outcome as Flagged, findCornersOf}
 use Rattle.point.specs.Outcomes.{Points as Passed}
-use Rattle.pbm.specs.Calls.{Outcome as Read, Written}
+use Rattle.pbm.specs.Read.{Reading as Read}
+use Rattle.pbm.specs.Write.{Written}
 use Rattle.pbm.specs.declared.Picture.{Picture}
 use Rattle.pbm.specs.declared.Picture.the-variants as Picture
 use Rattle.reduce.specs.Reduce.{Points, Numbered, Marked, Reduced}
@@ -68,7 +69,7 @@ pub written-told : (a : Answer) (n : ℕ) (k : List ℕ) (out : List ℕ) (o : W
 unfolding written
 written-told a n k out o e p q = told a n k out p q ∙ ap written e
 
-module _ (a : Picture) (pixels : List ℕ) (o : Read) (e : record { answer = a; pixels = pixels } ≡ o) (width height : List ℕ) where
+module _ (a : Picture) (pixels : List ℕ) (o : Read) (e : record { answer = a; out = pixels } ≡ o) (width height : List ℕ) where
   pub picture-read : (c : Chart) (n : ℕ) → a ≡ Picture.Read c n →
       record { number = 0; count = n ∷ []; buffers = (pixels, c .width ∷ [], c .height ∷ []) } ≡ pictured o width height
   unfolding pictured

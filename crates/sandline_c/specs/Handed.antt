@@ -18,7 +18,8 @@ use Rattle.util.specs.declared.Measure.{Measure}
 use Rattle.util.specs.declared.MidPoint.{MidPoint}
 use Rattle.point.specs.Outcomes.{Points as Passed}
 use Rattle.pbm.specs.Answers.{pictureNumber}
-use Rattle.pbm.specs.Calls.{Outcome as Read, Written}
+use Rattle.pbm.specs.Read.{Reading as Read}
+use Rattle.pbm.specs.Write.{Written}
 use Rattle.pbm.specs.declared.Picture.{Picture}
 use Rattle.pbm.specs.declared.Picture.the-variants as Picture
 use Rattle.reduce.specs.Reduce.{Points, Numbered, Marked, Reduced}
@@ -91,7 +92,7 @@ unfoldable pub pictured : Read → List ℕ → List ℕ → Counted (List ℕ �
 pictured o width height = record {
   number = pictureNumber (o .answer);
   count = taken (o .answer) ∷ [];
-  buffers = (o .pixels, widthOr (o .answer) width, heightOr (o .answer) height);
+  buffers = (o .out, widthOr (o .answer) width, heightOr (o .answer) height);
 }
 
 -- whether the round is finished, told where it was made

@@ -1,6 +1,7 @@
 // Charts from PBM pictures, and to them.
 ghost use mathlib.Core.Path.{_≡_};
-ghost use Rattle.pbm.specs.Calls.{readOf, writtenOf};
+ghost use Rattle.pbm.specs.Read.{readOf};
+ghost use Rattle.pbm.specs.Write.{writtenOf};
 ghost use Rattle.sandline_c.specs.Handed.{pictured, written};
 ghost use Rattle.sandline_c.specs.Read.{chart as chartOf};
 use crate::handing::hand;

@@ -14,7 +14,7 @@ use borrow.Author.Tests.{lt-ltb, le-ltb, ltb-true, ltb-false}
 use Rattle.laws.specs.If.{if_then_else_}
 use Rattle.laws.specs.Lists.{over}
 use Rattle.laws.proofs.Lists.{take-over-all}
-use Rattle.pbm.specs.Calls.{Outcome, readOf}
+use Rattle.pbm.specs.Read.{Reading as Outcome, readOf}
 use Rattle.pbm.specs.declared.Picture.{Picture}
 use Rattle.pbm.specs.declared.Picture.the-variants as Picture
 use Rattle.pbm.proofs.theorems.Behind.{nothing-more-matters}
@@ -30,8 +30,8 @@ unfolding whole surveyText
 nothing-follows file more is = by (readOf file chartRoom .answer) refl is
   where
     by : (p : Picture) → readOf file chartRoom .answer ≡ p → isRead p ≡ true →
-        textOf (readOf (file ++ more) chartRoom .answer) (readOf (file ++ more) chartRoom .pixels) ≡ textOf (readOf file chartRoom .answer) (readOf file chartRoom .pixels)
-    by (Picture.Read c n) e t = ap (λ (o : Outcome). textOf (o .answer) (o .pixels)) (nothing-more-matters file more chartRoom c n e)
+        textOf (readOf (file ++ more) chartRoom .answer) (readOf (file ++ more) chartRoom .out) ≡ textOf (readOf file chartRoom .answer) (readOf file chartRoom .out)
+    by (Picture.Read c n) e t = ap (λ (o : Outcome). textOf (o .answer) (o .out)) (nothing-more-matters file more chartRoom c n e)
     by (Picture.Refused r) e t = absurd (false≢true t)
 
 -- nor whether it is whole

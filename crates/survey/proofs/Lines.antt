@@ -24,7 +24,7 @@ use Rattle.frames.proofs.Sizes.{length-points}
 use Rattle.frames.specs.Calls.{walkReply, simplifyReply, numbersReply}
 use Rattle.frames.proofs.Room.{walk-counts}
 use Rattle.frames.proofs.Claims.{simplified-short, numbered-short}
-use Rattle.pbm.specs.Calls.{readOf}
+use Rattle.pbm.specs.Read.{readOf}
 use Rattle.pbm.specs.declared.Picture.{Picture}
 use Rattle.pbm.specs.declared.Picture.the-variants as Picture
 use Rattle.survey.specs.Survey.{outlineFrom, outlineOf, outlined, kept, twoLines, threeLines, refusedLine, textOf, chartRoom, surveyText}
@@ -79,8 +79,8 @@ pub survey-short : (file : List ℕ) → length (surveyText file) ≤ 98307
 unfolding surveyText
 survey-short file = by (readOf file chartRoom .answer)
   where
-    by : (p : Picture) → length (textOf p (readOf file chartRoom .pixels)) ≤ 98307
-    by (Picture.Read c bytes) = three-short c (readOf file chartRoom .pixels)
+    by : (p : Picture) → length (textOf p (readOf file chartRoom .out)) ≤ 98307
+    by (Picture.Read c bytes) = three-short c (readOf file chartRoom .out)
     by (Picture.Refused r) = refused-short (refusalNumber r)
 
 -- ---- what is put

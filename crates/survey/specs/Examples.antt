@@ -14,7 +14,7 @@ use Rattle.simplify.specs.Simplify.{simplifyOf}
 use Rattle.reduce.specs.Reduce.{numberedOf}
 use Rattle.texts.specs.Text.{lowDigits}
 use Rattle.frames.specs.Replies.{pointsText, numbersText}
-use Rattle.pbm.specs.Calls.{readOf}
+use Rattle.pbm.specs.Read.{readOf}
 use Rattle.survey.specs.Survey.{threeLines, surveyText, whole, stepOf}
 use Rattle.survey.specs.declared.step.Turn.the-variants.{Read}
 

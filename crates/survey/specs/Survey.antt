@@ -22,7 +22,7 @@ use Rattle.frames.specs.Replies.{pointsText}
 use Rattle.frames.specs.Room.{room, numberRoom}
 use Rattle.frames.specs.Calls.{walkReply, simplifyReply, numbersReply}
 use Rattle.lines.specs.Turns.{line}
-use Rattle.pbm.specs.Calls as Pbm
+use Rattle.pbm.specs.Read as Pbm
 use Rattle.pbm.specs.declared.Picture.{Picture}
 use Rattle.pbm.specs.declared.Picture.the-variants as Picture
 use Rattle.survey.specs.declared.step.Turn.{Turn}
@@ -72,7 +72,7 @@ chartRoom = replicate 32768 0
 
 unfoldable pub surveyText : List ℕ → List ℕ
 unfolding threeLines
-surveyText file = let picture = Pbm.readOf file chartRoom in textOf (picture .answer) (picture .pixels)
+surveyText file = let picture = Pbm.readOf file chartRoom in textOf (picture .answer) (picture .out)
 
 -- ---- what is to be done with the part of a file that came
 

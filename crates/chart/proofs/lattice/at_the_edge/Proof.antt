@@ -2,7 +2,7 @@
 use mathlib.Core.Logic.{⊎-elim}
 use borrow.Author.Needs.{needs}
 use Rattle.chart.proofs.Coordinates.{less-read-fits, around-left, around-above, four-read}
-use Rattle.chart.proofs.Places.{pair-le, quad-fits, four-fit}
+use Rattle.chart.proofs.BitPlaces.{pair-le, quad-fits, four-fit}
 use Rattle.chart.proofs.lattice.at_the_edge.Statement.{statement}
 use Rattle.chart.proofs.lattice.at_the_edge.Tie as tie
 

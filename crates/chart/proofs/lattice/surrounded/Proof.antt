@@ -1,7 +1,7 @@
 -- `chart::lattice::surrounded` meets its contract. Assumes nothing.
 use borrow.Author.Needs.{needs}
 use Rattle.chart.proofs.Sizes.{within-narrow, within-column}
-use Rattle.chart.proofs.Places.{stride-fits, row-bits-fit, bit-fits, no-left, no-top, not-inside, by-length}
+use Rattle.chart.proofs.BitPlaces.{stride-fits, row-bits-fit, bit-fits, no-left, no-top, not-inside, by-length}
 use Rattle.chart.proofs.lattice.surrounded.Statement.{statement}
 use Rattle.chart.proofs.lattice.surrounded.Tie as tie
 

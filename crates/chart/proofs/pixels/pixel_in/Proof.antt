@@ -1,7 +1,7 @@
 -- `chart::pixels::pixel_in` meets its contract. Assumes nothing.
 use borrow.Author.Needs.{needs}
 use Rattle.chart.proofs.Sizes.{within-narrow, within-column}
-use Rattle.chart.proofs.Places.{row-fits, byte-fits, outside, past-the-end, pixel-read}
+use Rattle.chart.proofs.BitPlaces.{row-fits, byte-fits, outside, past-the-end, pixel-read}
 use Rattle.chart.proofs.pixels.pixel_in.Statement.{statement}
 use Rattle.chart.proofs.pixels.pixel_in.Tie as tie
 

@@ -13,7 +13,7 @@ use Rattle.chart.specs.declared.Chart.{Chart}
 use Rattle.texts.specs.Put as Put
 use Rattle.texts.specs.Put.{put}
 use Rattle.texts.proofs.Pieces.{put-fits}
-use Rattle.pbm.specs.Calls.{Outcome, readOf}
+use Rattle.pbm.specs.Read.{Reading as Outcome, readOf}
 use Rattle.pbm.specs.declared.Picture.{Picture}
 use Rattle.pbm.specs.declared.Picture.the-variants as Picture
 use Rattle.survey.specs.Survey.{threeLines, refusedLine, textOf, chartRoom, surveyText, isRead, whole, stepOf}
@@ -33,14 +33,14 @@ nothing-waits : (more : Bool) → more && false ≡ false
 nothing-waits true = refl
 nothing-waits false = refl
 
-module _ (file : List ℕ) (more : Bool) (output : List ℕ) (p : Picture) (pixels : List ℕ) (is : record { answer = p; pixels = pixels } ≡ readOf file chartRoom) where
+module _ (file : List ℕ) (more : Bool) (output : List ℕ) (p : Picture) (pixels : List ℕ) (is : record { answer = p; out = pixels } ≡ readOf file chartRoom) where
   whole-is : (q : Picture) → p ≡ q → whole file ≡ isRead q
   unfolding whole
   whole-is q e = sym (ap (λ (o : Outcome). isRead (o .answer)) is) ∙ ap isRead e
 
   text-is : (q : Picture) → p ≡ q → textOf q pixels ≡ surveyText file
   unfolding surveyText
-  text-is q e = ap (λ (k : Picture). textOf k pixels) (sym e) ∙ ap (λ (o : Outcome). textOf (o .answer) (o .pixels)) is
+  text-is q e = ap (λ (k : Picture). textOf k pixels) (sym e) ∙ ap (λ (o : Outcome). textOf (o .answer) (o .out)) is
 
   answered : (q : Picture) (r : ℕ) (last : List ℕ) → p ≡ q → more && not (isRead q) ≡ false → 98307 ≤ length output →
       record { next = r; out = last } ≡ put (textOf q pixels) output 0 → record { turn = Write r; output = last } ≡ stepOf file more output
