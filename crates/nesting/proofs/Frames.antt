@@ -6,7 +6,8 @@ use mathlib.Core.Path.{_≡_, refl, sym, ap, subst, _∙_}
 use lib.Dec.{ltb}
 use lib.IntN.{ℤ}
 use borrow.Author.Tests.{ltb-true, ltb-false}
-use Rattle.split.specs.Tree.{count, framed}
+use Rattle.point.specs.Points.{count}
+use Rattle.split.specs.Tree.{framed}
 use Rattle.split.proofs.Frames.{framed-many, framed-one}
 use Rattle.nesting.proofs.Kept.{AllIn, all-append}
 

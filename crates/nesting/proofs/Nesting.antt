@@ -19,11 +19,12 @@ use Rattle.laws.specs.Finite.{NonNeg}
 use Rattle.laws.proofs.Order.{AtLeastZero, at-least-zero}
 use Rattle.laws.proofs.Ranges.{between-below}
 use Rattle.point.specs.Limits.{tooMany, badPoints, badSqTolerance, within}
+use Rattle.point.specs.Points.{count, pointAt}
 use Rattle.point.proofs.Claims.{coordinates-fit}
 use Rattle.split.specs.Distance.{sqSegDist}
-use Rattle.split.specs.inside.Small.{Small}
-use Rattle.split.specs.Tree.{count, pointAt, distanceIn, farthest, framed, spanTree, tree, cut, down, marksOf, numbersOf}
-use Rattle.split.proofs.Distances.{distance-below, distance-nonneg}
+use Rattle.split.specs.Farthest.{distanceIn, farthest}
+use Rattle.split.specs.Tree.{framed, spanTree, tree, cut, down, marksOf, numbersOf}
+use Rattle.split.proofs.Distances.{Small, distance-below, distance-nonneg}
 use Rattle.split.proofs.Frames.{framed-many, framed-one}
 use Rattle.nesting.proofs.Tolerances.{lower-keeps}
 use Rattle.split.proofs.Trees.{Each, each-map, split-inside}

@@ -11,7 +11,6 @@ mod distance;
 mod farthest;
 mod marks;
 mod numbers;
-mod span;
 
 pub use marks::mark;
 pub use numbers::number;

@@ -22,8 +22,8 @@ use Rattle.point.specs.inside.Written.{Handed}
 use Rattle.point.proofs.Flat.{length-flat, length-points, count-flat}
 use Rattle.point.proofs.Room.{places-shorter}
 use Rattle.split.specs.Tree.{marksOf}
-use Rattle.split.specs.Marks.{markedOf}
-use Rattle.split.proofs.Claims.{a-mark-for-each-point, marked-over}
+use Rattle.split.specs.Buffers.{laidMarks}
+use Rattle.split.proofs.Claims.{a-mark-for-each-point, marks-over}
 use Rattle.reduce.specs.Keep.{Points, handed, keptAllOf, keptMarkedOf}
 use Rattle.reduce.specs.Kept.{kept}
 use Rattle.reduce.proofs.keep.Handed.{all-handed, marked-handed}
@@ -98,7 +98,7 @@ module _ (list : List ℤ) (tolerance : Float) (out scratch : List ℤ) (marks :
           let l : n * 2 ≡ length (flat ring) = omega (arith, length-flat ring) in
           p ∙ rw (e, l, scratch-is) (take-over-all (flat ring) scratch)
 
-      module _ (marked : List ℕ) (s : marked ≡ markedOf picked sq marks) where
+      module _ (marked : List ℕ) (s : marked ≡ laidMarks picked sq marks) where
         a-mark-each : length ring-marks ≡ count (flat ring)
         a-mark-each = a-mark-for-each-point (flat ring) sq some
 
@@ -106,7 +106,7 @@ module _ (list : List ℤ) (tolerance : Float) (out scratch : List ℤ) (marks :
         marks-fit = omega (arith, fewer, marks-room list tolerance out scratch marks passed)
 
         marks-are : marked ≡ over ring-marks marks
-        marks-are = s ∙ ap (λ (l : List ℤ). markedOf l sq marks) list-is ∙ marked-over (flat ring) sq marks some marks-fit
+        marks-are = s ∙ ap (λ (l : List ℤ). laidMarks l sq marks) list-is ∙ marks-over (flat ring) sq marks some marks-fit
 
         ring-handed : keptMarkedOf picked marked out ≡ handed (kept ring-marks (points (flat ring))) out
         ring-handed =

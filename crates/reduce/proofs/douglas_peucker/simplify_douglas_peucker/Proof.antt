@@ -20,8 +20,8 @@ use Rattle.point.specs.declared.refusal.Refusal.the-variants.{TooMany, BadPoint
 use Rattle.point.proofs.Flat.{length-points}
 use Rattle.point.proofs.Room.{too-short, long-enough}
 use Rattle.split.specs.Tree.{marksOf}
-use Rattle.split.specs.Marks.{markedOf}
-use Rattle.split.proofs.Claims.{a-mark-for-each-point, marked-over}
+use Rattle.split.specs.Buffers.{laidMarks}
+use Rattle.split.proofs.Claims.{a-mark-for-each-point, marks-over}
 use Rattle.reduce.specs.Keep.{Points, keptMarkedOf}
 use Rattle.reduce.proofs.keep.Handed.{marked-handed}
 use Rattle.reduce.proofs.Marks.{kept-over}
@@ -59,14 +59,14 @@ module _ (list : List ℤ) (tolerance : Float) (out : List ℤ) (marks : List �
             unfolding douglasPeuckerOf
             no-marks l = rw (← m, e, ← b, f, ne-eqb _ _ some, ← w, g, ← p, long-enough _ _ h, lt-ltb _ _ l)
 
-            done : count list ≤ length marks → (now : List ℕ) → now ≡ markedOf list tolerance marks → (r : Answer) (last : List ℤ) →
+            done : count list ≤ length marks → (now : List ℕ) → now ≡ laidMarks list tolerance marks → (r : Answer) (last : List ℤ) →
                 record { answer = r; out = last } ≡ keptMarkedOf list now out → record { answer = r; out = last; marks = now } ≡ douglasPeuckerOf list tolerance out marks
             unfolding douglasPeuckerOf
             done l now s r last d =
                 let o : 0 < count list = omega arith in
                 let each : length (marksOf tolerance list) ≡ count list = a-mark-for-each-point list tolerance o in
                 let short : length (points list) ≤ length (marksOf tolerance list) = rw (length-points list, each) (omega arith) in
-                let is : now ≡ over (marksOf tolerance list) marks = s ∙ marked-over list tolerance marks o l in
+                let is : now ≡ over (marksOf tolerance list) marks = s ∙ marks-over list tolerance marks o l in
                 let long : length now ≡ length marks = ap length is ∙ length-over (marksOf tolerance list) marks (omega arith) in
                 rw (← m, e, ← b, f, ne-eqb _ _ some, ← w, g, ← p, long-enough _ _ h, le-ltb _ _ l)
                 (ap (λ (k : Points). record { answer = k .answer; out = k .out; marks = now }) (d ∙ marked-handed list now out (omega arith) (omega arith))
