@@ -11,7 +11,8 @@ use Rattle.point.specs.declared.PointI32.{PointI32}
 use Rattle.chart.specs.declared.Chart.{Chart}
 use Rattle.walker.specs.Walk.{walked}
 use Rattle.simplify.specs.Simplify.{simplifyOf}
-use Rattle.reduce.specs.Reduce.{reduceOf, numberedOf}
+use Rattle.reduce.specs.Numbers.{numberedOf}
+use Rattle.reduce.specs.Reduce.{reduceOf}
 use Rattle.texts.specs.Put.{Outcome, put}
 use Rattle.requests.specs.Frame.{Request, requestIn}
 use Rattle.requests.specs.Handed.{handed}

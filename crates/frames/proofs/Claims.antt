@@ -25,7 +25,8 @@ use Rattle.frames.proofs.calls.put_walk.Reads.{Post as Put-walk}
 use Rattle.point.specs.Refusals.{numberOf, countOf}
 use Rattle.simplify.specs.Simplify.{simplifyOf}
 use Rattle.frames.proofs.calls.put_simplified.Reads.{Post as Put-simplified}
-use Rattle.reduce.specs.Reduce.{reduceOf, numberedOf}
+use Rattle.reduce.specs.Numbers.{numberedOf}
+use Rattle.reduce.specs.Reduce.{reduceOf}
 use Rattle.frames.proofs.calls.put_reduced.Reads.{Post as Put-reduced}
 use Rattle.frames.proofs.calls.put_numbered.Reads.{Post as Put-numbered}
 use Rattle.words.specs.Pairs.{bytesOf}
@@ -96,7 +97,7 @@ put-numbered-determined κs a a′ r r′ s s′ p q list out at =
 pub reduced-short : (list : List ℤ) (tolerance : Float) → length (reduceReply (reduceOf list tolerance room room marks)) ≤ 32768
 reduced-short list tolerance =
     let o = reduceOf list tolerance room room marks in
-    points-short 3 (numberOf (o .answer)) (countOf (o .answer) * 2) (o .out) (reduce-counts list tolerance)
+    points-short 3 (numberOf (o .answer)) (countOf (o .answer) * 2) (o .out .0) (reduce-counts list tolerance)
 
 pub numbered-short : (list : List ℤ) → length (numbersReply (numberedOf list numberRoom)) ≤ 32768
 numbered-short list =

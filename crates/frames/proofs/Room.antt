@@ -9,6 +9,7 @@ use lib.ListN.{length, take, length-replicate, replicate}
 use mir.Syntax.{w64}
 use mir.Val.{Fits}
 use lib.Ieee.{Float, binary64, ofInt, ofBits}
+use Rattle.laws.specs.Outcome.{Outcome}
 use Rattle.point.specs.declared.PointI32.{PointI32}
 use Rattle.chart.specs.declared.Chart.{Chart}
 use Rattle.walker.specs.Answers.{walkedNumber, walkedCount}
@@ -26,7 +27,8 @@ use Rattle.point.specs.declared.refusal.Answer.{Answer}
 use Rattle.point.specs.Outcomes.{Points}
 use Rattle.simplify.specs.Simplify.{simplifyOf}
 use Rattle.simplify.proofs.Claims.{simplify-fits}
-use Rattle.reduce.specs.Reduce.{Reduced, Numbered, reduceOf, numberedOf}
+use Rattle.reduce.specs.Numbers.{numberedOf}
+use Rattle.reduce.specs.Reduce.{reduceOf}
 use Rattle.reduce.proofs.Claims.{reduce-fits, numbers-fit}
 
 module _ (c : Chart) (pixels : List ℕ) (start : PointI32) (cw : Bool) where
@@ -81,9 +83,9 @@ pub reduce-counts : (list : List ℤ) (tolerance : Float) → countOf (reduceOf 
 reduce-counts list tolerance = omega (arith, reduce-fits list tolerance room room marks, length-replicate 8190 (pos 0))
 
 module _ (list : List ℤ) (tolerance : Float) (a : Answer) (kept scratch : List ℤ) (last-marks : List ℕ) (k : ℕ)
-    (is : record { answer = a; out = kept; scratch = scratch; marks = last-marks } ≡ reduceOf list tolerance room room marks) (count : k ≡ countOf a) where
+    (is : record { answer = a; out = (kept, scratch, last-marks) } ≡ reduceOf list tolerance room room marks) (count : k ≡ countOf a) where
   few-reduced : k * 2 ≤ 8190
-  few-reduced = omega (arith, reduce-counts list tolerance, count ∙ ap (λ (o : Reduced). countOf (o .answer)) is)
+  few-reduced = omega (arith, reduce-counts list tolerance, count ∙ ap (λ (o : Outcome Answer (List ℤ × List ℤ × List ℕ)). countOf (o .answer)) is)
 
   pub reduce-fit : (j : ℕ) → j ≤ 2 → Fits w64 (k * j)
   reduce-fit j h = record { fits = omega (arith, at-most-two k j few-reduced h) }
@@ -95,7 +97,7 @@ module _ (list : List ℤ) (tolerance : Float) (a : Answer) (kept scratch : List
       record { next = r; out = last } ≡ put (pointsText 3 n (take (k * 2 - 0) kept)) out at →
       record { next = r; out = last } ≡ put (reduceReply (reduceOf list tolerance room room marks)) out at
   reduce-put n at r out last number e =
-      e ∙ points-part 3 n (numberOf a) k (countOf a) at kept out number count ∙ ap (λ (o : Reduced). put (reduceReply o) out at) is
+      e ∙ points-part 3 n (numberOf a) k (countOf a) at kept out number count ∙ ap (λ (o : Outcome Answer (List ℤ × List ℤ × List ℕ)). put (reduceReply o) out at) is
 
 -- ---- kind 04
 
@@ -111,7 +113,7 @@ numbers-counts list = omega (arith, numbers-fit list numberRoom, length-replicat
 module _ (list : List ℤ) (a : Answer) (old numbers : List Float) (k : ℕ)
     (is : record { answer = a; out = numbers } ≡ numberedOf list old) (count : k ≡ countOf a) where
   pub numbers-part-fits : length numbers ≡ length old → k ≤ length numbers
-  numbers-part-fits e = omega (arith, numbers-fit list old, count ∙ ap (λ (o : Numbered). countOf (o .answer)) is)
+  numbers-part-fits e = omega (arith, numbers-fit list old, count ∙ ap (λ (o : Outcome Answer (List Float)). countOf (o .answer)) is)
 
 -- in that of a frame
 module _ (list : List ℤ) (a : Answer) (numbers : List Float) (k : ℕ)
@@ -122,4 +124,4 @@ module _ (list : List ℤ) (a : Answer) (numbers : List Float) (k : ℕ)
   numbers-put n at r out last number e =
       e
       ∙ numbers-part 4 n (numberOf a) k (countOf a) at numbers out number count
-      ∙ ap (λ (o : Numbered). put (numbersReply o) out at) (is ∙ ap (λ (z : Float). numberedOf list (replicate 2047 z)) zero-is)
+      ∙ ap (λ (o : Outcome Answer (List Float)). put (numbersReply o) out at) (is ∙ ap (λ (z : Float). numberedOf list (replicate 2047 z)) zero-is)

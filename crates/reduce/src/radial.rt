@@ -7,11 +7,9 @@ ghost use lib.IntN.{natAbs, _+ℤ_, _-ℤ_, _*ℤ_};
 ghost use lib.ListN.{length};
 ghost use Rattle.point.specs.Limits.{badPoints};
 ghost use Rattle.point.specs.Points.{flat, points as pointsOf};
-ghost use Rattle.reduce.specs.Distance.{sqDist};
-ghost use Rattle.reduce.specs.Radial.{radial, radialEnd, samePoint};
 ghost use Rattle.point.specs.inside.Written.{onto, Handed};
-ghost use Rattle.reduce.specs.Reduce.{radialOf};
-use crate::keep;
+ghost use Rattle.reduce.specs.Radial.{sqDist, radial, radialEnd, samePoint, radialOf};
+use crate::keep::keep_all;
 use point::Answer;
 use point::PointI32;
 use point::Refusal;
@@ -45,7 +43,7 @@ pub(crate) fn keep_far(points: &[i32], tolerance: f64, out: &mut [i32]) -> usize
 {
     let n = points.len() / 2;
     if n <= 2 {
-        keep::keep_all(points, out);
+        keep_all(points, out);
         return n;
     }
     let mut prev = point_at(points, 0);

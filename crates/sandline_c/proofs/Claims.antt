@@ -26,7 +26,11 @@ use Rattle.frames.specs.Answer.{answerTo}
 use Rattle.util.specs.Measures.{middleOf, normOf, normOfI32}
 use Rattle.point.specs.Points.{pointAt}
 use Rattle.pbm.specs.Calls.{readOf, writtenOf}
-use Rattle.reduce.specs.Reduce.{radialOf, douglasPeuckerOf, reduceOf, numberedOf, zoomOf}
+use Rattle.reduce.specs.DouglasPeucker.{douglasPeuckerOf}
+use Rattle.reduce.specs.Numbers.{numberedOf}
+use Rattle.reduce.specs.Radial.{radialOf}
+use Rattle.reduce.specs.Reduce.{reduceOf}
+use Rattle.reduce.specs.Zoom.{zoomOf}
 use Rattle.simplify.specs.Simplify.{staircaseOf, penaltiesOf, simplifyOf}
 use Rattle.smooth.specs.Calls.{subdividedOf}
 use Rattle.spiral.specs.Spiral.{freshSpiral, advanced}

@@ -15,11 +15,11 @@ use Rattle.point.specs.declared.refusal.Refusal.{Refusal}
 use Rattle.chart.specs.Pixels.{pixelAt}
 use Rattle.chart.specs.declared.Chart.{Chart}
 use Rattle.corners.specs.Calls.{Outcome as Flagged, findCornersOf}
+use Rattle.laws.specs.Outcome.{Outcome}
 use Rattle.point.specs.Outcomes.{Points as Passed}
 use Rattle.pbm.specs.Calls.{Outcome as Read, Written}
 use Rattle.pbm.specs.declared.Picture.{Picture}
 use Rattle.pbm.specs.declared.Picture.the-variants as Picture
-use Rattle.reduce.specs.Reduce.{Points, Numbered, Marked, Reduced}
 use Rattle.smooth.specs.Calls.{Outcome as Round}
 use Rattle.smooth.specs.declared.Subdivided.{Subdivided}
 use Rattle.smooth.specs.declared.Subdivided.the-variants as Subdivided
@@ -38,12 +38,12 @@ pub passed-told : (a : Answer) (n : ℕ) (k : List ℕ) (out : List ℤ) (o : Pa
 unfolding passed
 passed-told a n k out o e p q = told a n k out p q ∙ ap passed e
 
-pub points-told : (a : Answer) (n : ℕ) (k : List ℕ) (out : List ℤ) (o : Points) → record { answer = a; out = out } ≡ o → n ≡ numberOf a → k ≡ countOf a ∷ [] →
+pub points-told : (a : Answer) (n : ℕ) (k : List ℕ) (out : List ℤ) (o : Passed) → record { answer = a; out = out } ≡ o → n ≡ numberOf a → k ≡ countOf a ∷ [] →
     record { number = n; count = k; buffers = out } ≡ points o
 unfolding points
 points-told a n k out o e p q = told a n k out p q ∙ ap points e
 
-pub numbered-told : (a : Answer) (n : ℕ) (k : List ℕ) (out : List Float) (o : Numbered) → record { answer = a; out = out } ≡ o → n ≡ numberOf a → k ≡ countOf a ∷ [] →
+pub numbered-told : (a : Answer) (n : ℕ) (k : List ℕ) (out : List Float) (o : Outcome Answer (List Float)) → record { answer = a; out = out } ≡ o → n ≡ numberOf a → k ≡ countOf a ∷ [] →
     record { number = n; count = k; buffers = out } ≡ numbered o
 unfolding numbered
 numbered-told a n k out o e p q = told a n k out p q ∙ ap numbered e
@@ -53,12 +53,12 @@ pub flagged-told : (a : Answer) (n : ℕ) (k : List ℕ) (flags : List ℕ) (o :
 unfolding flagged
 flagged-told a n k flags o e p q = told a n k flags p q ∙ ap flagged e
 
-pub marked-told : (a : Answer) (n : ℕ) (k : List ℕ) (out : List ℤ) (marks : List ℕ) (o : Marked) → record { answer = a; out = out; marks = marks } ≡ o → n ≡ numberOf a → k ≡ countOf a ∷ [] →
+pub marked-told : (a : Answer) (n : ℕ) (k : List ℕ) (out : List ℤ) (marks : List ℕ) (o : Outcome Answer (List ℤ × List ℕ)) → record { answer = a; out = (out, marks) } ≡ o → n ≡ numberOf a → k ≡ countOf a ∷ [] →
     record { number = n; count = k; buffers = (out, marks) } ≡ marked o
 unfolding marked
 marked-told a n k out marks o e p q = told a n k (out, marks) p q ∙ ap marked e
 
-pub reduced-told : (a : Answer) (n : ℕ) (k : List ℕ) (out : List ℤ) (scratch : List ℤ) (marks : List ℕ) (o : Reduced) → record { answer = a; out = out; scratch = scratch; marks = marks } ≡ o → n ≡ numberOf a → k ≡ countOf a ∷ [] →
+pub reduced-told : (a : Answer) (n : ℕ) (k : List ℕ) (out : List ℤ) (scratch : List ℤ) (marks : List ℕ) (o : Outcome Answer (List ℤ × List ℤ × List ℕ)) → record { answer = a; out = (out, scratch, marks) } ≡ o → n ≡ numberOf a → k ≡ countOf a ∷ [] →
     record { number = n; count = k; buffers = (out, scratch, marks) } ≡ reduced o
 unfolding reduced
 reduced-told a n k out scratch marks o e p q = told a n k (out, scratch, marks) p q ∙ ap reduced e

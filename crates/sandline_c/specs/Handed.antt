@@ -16,12 +16,12 @@ use Rattle.util.specs.Answers.{intersectionNumber, intersectionValues, midPoint
 use Rattle.util.specs.declared.ratios.Intersection.{Intersection}
 use Rattle.util.specs.declared.Measure.{Measure}
 use Rattle.util.specs.declared.MidPoint.{MidPoint}
+use Rattle.laws.specs.Outcome.{Outcome}
 use Rattle.point.specs.Outcomes.{Points as Passed}
 use Rattle.pbm.specs.Answers.{pictureNumber}
 use Rattle.pbm.specs.Calls.{Outcome as Read, Written}
 use Rattle.pbm.specs.declared.Picture.{Picture}
 use Rattle.pbm.specs.declared.Picture.the-variants as Picture
-use Rattle.reduce.specs.Reduce.{Points, Numbered, Marked, Reduced}
 use Rattle.smooth.specs.Answers.{subdividedNumber, subdividedCount}
 use Rattle.smooth.specs.Calls.{Outcome as Round}
 use Rattle.smooth.specs.declared.Subdivided.{Subdivided}
@@ -52,20 +52,20 @@ counted a buffers = record { number = numberOf a; count = countOf a ∷ []; buff
 unfoldable pub passed : Passed → Counted (List ℤ)
 passed o = counted (o .answer) (o .out)
 
-unfoldable pub points : Points → Counted (List ℤ)
+unfoldable pub points : Passed → Counted (List ℤ)
 points o = counted (o .answer) (o .out)
 
-unfoldable pub numbered : Numbered → Counted (List Float)
+unfoldable pub numbered : Outcome Answer (List Float) → Counted (List Float)
 numbered o = counted (o .answer) (o .out)
 
 unfoldable pub flagged : Flagged → Counted (List ℕ)
 flagged o = counted (o .answer) (o .flags)
 
-unfoldable pub marked : Marked → Counted (List ℤ × List ℕ)
-marked o = counted (o .answer) (o .out, o .marks)
+unfoldable pub marked : Outcome Answer (List ℤ × List ℕ) → Counted (List ℤ × List ℕ)
+marked o = counted (o .answer) (o .out)
 
-unfoldable pub reduced : Reduced → Counted (List ℤ × List ℤ × List ℕ)
-reduced o = counted (o .answer) (o .out, o .scratch, o .marks)
+unfoldable pub reduced : Outcome Answer (List ℤ × List ℤ × List ℕ) → Counted (List ℤ × List ℤ × List ℕ)
+reduced o = counted (o .answer) (o .out)
 
 unfoldable pub walked : Walk → Counted (List ℤ)
 walked o = record { number = walkedNumber (o .answer); count = walkedCount (o .answer) ∷ []; buffers = o .out }

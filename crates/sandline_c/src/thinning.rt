@@ -1,7 +1,11 @@
 // Simplification, reduction, and the numbers that zooms go by.
 ghost use mathlib.Core.Path.{_≡_};
 ghost use Rattle.simplify.specs.Simplify.{staircaseOf, penaltiesOf, simplifyOf};
-ghost use Rattle.reduce.specs.Reduce.{radialOf, douglasPeuckerOf, reduceOf, numberedOf, zoomOf};
+ghost use Rattle.reduce.specs.DouglasPeucker.{douglasPeuckerOf};
+ghost use Rattle.reduce.specs.Numbers.{numberedOf};
+ghost use Rattle.reduce.specs.Radial.{radialOf};
+ghost use Rattle.reduce.specs.Reduce.{reduceOf};
+ghost use Rattle.reduce.specs.Zoom.{zoomOf};
 ghost use Rattle.sandline_c.specs.Handed.{passed, points as handedPoints, numbered, marked, reduced};
 use crate::handing::hand;
 

@@ -13,7 +13,7 @@ use Rattle.chart.specs.declared.Start.{Start}
 use Rattle.chart.specs.declared.Start.the-variants as Start
 use Rattle.walker.specs.Answers.{walkedNumber, walkedCount}
 use Rattle.simplify.specs.Simplify.{simplifyOf}
-use Rattle.reduce.specs.Reduce.{numberedOf}
+use Rattle.reduce.specs.Numbers.{numberedOf}
 use Rattle.texts.specs.Put.{Outcome, put}
 use Rattle.texts.proofs.Pieces.{put-fits, put-then}
 use Rattle.lines.specs.Turns.{line}

@@ -11,7 +11,7 @@ use Rattle.chart.specs.Start.{firstStart}
 use Rattle.walker.specs.Walk.{walked}
 use Rattle.simplify.specs.Penalties.{penalty}
 use Rattle.simplify.specs.Simplify.{simplifyOf}
-use Rattle.reduce.specs.Reduce.{numberedOf}
+use Rattle.reduce.specs.Numbers.{numberedOf}
 use Rattle.texts.specs.Text.{lowDigits}
 use Rattle.frames.specs.Replies.{pointsText, numbersText}
 use Rattle.pbm.specs.Calls.{readOf}

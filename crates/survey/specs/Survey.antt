@@ -17,7 +17,7 @@ use Rattle.walker.specs.Walk as Walk
 use Rattle.walker.specs.declared.Walked.the-variants as Walked
 use Rattle.point.specs.Outcomes.{Points}
 use Rattle.simplify.specs.Simplify as Simplify
-use Rattle.reduce.specs.Reduce.{numberedOf}
+use Rattle.reduce.specs.Numbers.{numberedOf}
 use Rattle.frames.specs.Replies.{pointsText}
 use Rattle.frames.specs.Room.{room, numberRoom}
 use Rattle.frames.specs.Calls.{walkReply, simplifyReply, numbersReply}

@@ -5,7 +5,7 @@ ghost use lib.ListN.{length};
 ghost use Rattle.point.specs.Refusals.{refusalNumber};
 ghost use Rattle.texts.specs.Put.{put};
 ghost use Rattle.lines.specs.Turns.{line};
-ghost use Rattle.reduce.specs.Reduce.{numberedOf};
+ghost use Rattle.reduce.specs.Numbers.{numberedOf};
 ghost use Rattle.frames.specs.Replies.{pointsText};
 ghost use Rattle.frames.specs.Room.{numberRoom};
 ghost use Rattle.frames.specs.Calls.{numbersReply};

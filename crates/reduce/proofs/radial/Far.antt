@@ -11,8 +11,7 @@ use lib.Seq.{drop-cons}
 use lib.Signed.{≤ℤ-refl}
 use Rattle.laws.proofs.Integers.{le-leZ}
 use Rattle.point.specs.declared.PointI32.{PointI32}
-use Rattle.reduce.specs.Distance.{sqDist}
-use Rattle.reduce.specs.Radial.{samePoint, radialEnd, radialFrom, lastOf, radial}
+use Rattle.reduce.specs.Radial.{sqDist, samePoint, radialEnd, radialFrom, lastOf, radial}
 
 -- ---- how many points it keeps
 

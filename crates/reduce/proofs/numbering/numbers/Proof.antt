@@ -1,4 +1,4 @@
--- `zooms::numbers` meets its contract: at each return the tests on the way pick a line of `numberedOf`. Assumes nothing.
+-- `numbers` meets its contract: at each return the tests on the way pick a line of `numberedOf`. Assumes nothing.
 use Prim.Native.Nat.{ℕ, _<_, _≤_}
 use mathlib.Core.Bool.{Bool, true, false}
 use mathlib.Core.List.{List}
@@ -16,7 +16,7 @@ use Rattle.point.specs.Points.{count}
 use Rattle.point.proofs.Room.{places-enough}
 use Rattle.split.specs.Buffers.{laidNumbers}
 use Rattle.split.proofs.Claims.{numbers-over}
-use Rattle.reduce.specs.Zoom.{numberedOf}
+use Rattle.reduce.specs.Numbers.{numberedOf}
 use Rattle.reduce.proofs.numbering.numbers.Statement.{statement}
 use Rattle.reduce.proofs.numbering.numbers.Tie as tie
 

@@ -1,4 +1,4 @@
--- `reduce::same_point` meets its contract: coordinates with the same bits are equal. Assumes nothing.
+-- `same_point` meets its contract: coordinates with the same bits are equal. Assumes nothing.
 use Prim.Native.Nat.{_<_, _^_}
 use mathlib.Core.Bool.{Bool, true, false, _&&_, false≢true}
 use mathlib.Core.Path.{_≡_, refl, sym, ap}

@@ -1,4 +1,4 @@
--- `reduce::with_last` meets its contract: the end of the radial list is written, if there is one. Assumes nothing.
+-- `with_last` meets its contract: the end of the radial list is written, if there is one. Assumes nothing.
 use Prim.Native.Nat.{ℕ, _+_, _*_, _<_, _≤_}
 use mathlib.Core.Bool.{Bool, true, false}
 use mathlib.Core.List.{List, [], _∷_}

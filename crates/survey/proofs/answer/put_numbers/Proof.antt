@@ -5,7 +5,7 @@ use mathlib.Core.Path.{_≡_}
 use lib.IntN.{ℤ}
 use lib.ListN.{length}
 use borrow.Author.Needs.{needs}
-use Rattle.reduce.specs.Reduce.{numberedOf}
+use Rattle.reduce.specs.Numbers.{numberedOf}
 use Rattle.texts.specs.Put.{put}
 use Rattle.lines.specs.Turns.{line}
 use Rattle.frames.specs.Room.{numberRoom}

@@ -11,7 +11,7 @@ use Rattle.point.specs.Refusals.{numberOf, countOf}
 use Rattle.point.specs.declared.refusal.Answer.{Answer}
 use Rattle.point.specs.Outcomes.{Points}
 use Rattle.simplify.specs.Simplify.{simplifyOf}
-use Rattle.reduce.specs.Reduce.{numberedOf}
+use Rattle.reduce.specs.Numbers.{numberedOf}
 use Rattle.texts.specs.Put.{put}
 use Rattle.lines.specs.Turns.{line}
 use Rattle.frames.specs.Replies.{pointsText}

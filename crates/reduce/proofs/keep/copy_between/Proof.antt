@@ -1,4 +1,4 @@
--- `keeping::put_between` meets its contract. The loop's invariant: the points from `i` on that are kept by their numbers complete what is kept
+-- `copy_between` meets its contract. The loop's invariant: the points from `i` on that are kept by their numbers complete what is kept
 -- of all. Assumes nothing.
 use Prim.Native.Nat.{ℕ, _+_, _-_, _/_, _<_, _≤_}
 use mathlib.Core.Bool.{true, false}
@@ -15,10 +15,11 @@ use Rattle.point.proofs.Flat.{length-points, points-at}
 use Rattle.point.specs.inside.Written.{Left}
 use Rattle.point.proofs.Written.{passed, room, taken}
 use Rattle.reduce.specs.inside.Place.{placed}
-use Rattle.reduce.specs.Kept.{select, kept, marksAfter, marksBy}
+use Rattle.reduce.specs.Kept.{select, kept}
+use Rattle.reduce.specs.Zoom.{marksAfter, marksBy}
 use Rattle.reduce.proofs.Select.{kept-after, above, not-above, last-kept}
-use Rattle.reduce.proofs.keep.put_between.Statement.{statement}
-use Rattle.reduce.proofs.keep.put_between.Tie as tie
+use Rattle.reduce.proofs.keep.copy_between.Statement.{statement}
+use Rattle.reduce.proofs.keep.copy_between.Tie as tie
 
 -- position i, or the last before it
 abbrev upto : List ℤ → ℕ → ℕ
@@ -83,8 +84,8 @@ module _ (list : List ℤ) (numbers : List Float) (tolerance : Float) (some : 0 
       dropped-one t =
           passed l (here ∙ not-above tolerance numbers (points list) (pointAt list i) i nan (rw (length-points list) (omega arith)) (omega arith) t ∙ next)
 
-pub put-between-spec : {M : Type 1} → statement M
-put-between-spec =
+pub copy-between-spec : {M : Type 1} → statement M
+copy-between-spec =
     tie.close
     (tie.spec
     Inv-loop
@@ -94,7 +95,7 @@ put-between-spec =
     (λ c. search needs)  -- add-i
     (λ c. search needs)  -- mul-if1
     (λ c. search needs)  -- shared-slice-read-if1
-    (λ c κs. (search needs, search next-place))  -- put-requires
+    (λ c κs. (search needs, search next-place))  -- copy-point-requires
     (λ c. search needs)  -- add-kept
     (λ c. search needs)  -- loop-less
     (λ c. search kept-one)  -- loop-again

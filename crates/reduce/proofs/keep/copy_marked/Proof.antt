@@ -1,4 +1,4 @@
--- `keeping::put_marked` meets its contract. The loop's invariant: the marked points from `i` on complete the marked points of all.
+-- `copy_marked` meets its contract. The loop's invariant: the marked points from `i` on complete the marked points of all.
 -- Assumes nothing.
 use Prim.Native.Nat.{ℕ, _+_, _-_, _/_, _<_, _≤_}
 use mathlib.Core.List.{List, [], _∷_}
@@ -14,10 +14,9 @@ use Rattle.point.proofs.Flat.{length-points, points-at}
 use Rattle.point.proofs.Written.{begun, passed, room, taken, ended}
 use Rattle.reduce.specs.inside.Place.{placed}
 use Rattle.reduce.specs.Kept.{select}
-use Rattle.reduce.proofs.Select.{select-shorter, no-points}
-use Rattle.reduce.proofs.Marks.{marked, unmarked}
-use Rattle.reduce.proofs.keep.put_marked.Statement.{statement}
-use Rattle.reduce.proofs.keep.put_marked.Tie as tie
+use Rattle.reduce.proofs.Select.{select-shorter, no-points, marked, unmarked}
+use Rattle.reduce.proofs.keep.copy_marked.Statement.{statement}
+use Rattle.reduce.proofs.keep.copy_marked.Tie as tie
 
 -- what is still to be written
 unfoldable rest : List ℤ → List ℕ → ℕ → List PointI32
@@ -63,8 +62,8 @@ module _ (list : List ℤ) (marks : List ℕ) (old : List ℤ) where
       unfolding rest
       dropped-one e = passed l (unmarked marks (points list) i (pointAt list i) (omega arith) (rw (length-points list) h) e)
 
-pub put-marked-spec : {M : Type 1} → statement M
-put-marked-spec =
+pub copy-marked-spec : {M : Type 1} → statement M
+copy-marked-spec =
     tie.close
     (tie.spec
     Inv-loop
@@ -72,7 +71,7 @@ put-marked-spec =
     (λ c. (search needs, search started))  -- loop-holds
     (λ c. search needs)  -- add-i
     (λ c. search needs)  -- shared-slice-read-if1
-    (λ c κs. (search needs, search next-place))  -- put-requires
+    (λ c κs. (search needs, search next-place))  -- copy-point-requires
     (λ c. search needs)  -- add-kept
     (λ c. search needs)  -- loop-less
     (λ c. (search needs, search kept-one))  -- loop-again

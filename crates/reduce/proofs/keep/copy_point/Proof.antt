@@ -1,4 +1,4 @@
--- `keeping::put` meets its contract. Assumes nothing.
+-- `copy_point` meets its contract. Assumes nothing.
 use Prim.Native.Nat.{ℕ, _+_, _*_, _/_, _^_, _<_}
 use mathlib.Core.List.{List}
 use mathlib.Core.Path.{_≡_}
@@ -11,8 +11,8 @@ use lib.ListN.{length, set, getD, length-set}
 use lib.Signed.{mag}
 use borrow.Author.Needs.{needs, sfits-of}
 use Rattle.reduce.specs.inside.Place.{placed}
-use Rattle.reduce.proofs.keep.put.Statement.{statement}
-use Rattle.reduce.proofs.keep.put.Tie as tie
+use Rattle.reduce.proofs.keep.copy_point.Statement.{statement}
+use Rattle.reduce.proofs.keep.copy_point.Tie as tie
 
 -- a value is stored by its bits
 abbrev bits : ℤ → ℤ
@@ -30,8 +30,8 @@ module _ (points out : List ℤ) (k at : ℕ) where
 
 ruleset laws = (second-place, both-stored, needs)
 
-pub put-spec : {M : Type 1} → statement M
-put-spec =
+pub copy-point-spec : {M : Type 1} → statement M
+copy-point-spec =
     tie.close
     (tie.spec
     (λ c. search laws)  -- mul-x

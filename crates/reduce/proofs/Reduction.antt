@@ -1,4 +1,4 @@
--- The two lines of `reduceOutcome`, which of them a list and a tolerance pick, and what is known where nothing is refused. Assumes nothing.
+-- The two lines of `reduction`, which of them a list and a tolerance pick, and what is known where nothing is refused. Assumes nothing.
 use Prim.Native.Nat.{ℕ, _*_, _<_, _≤_}
 use mathlib.Core.Bool.{Bool, false, true, _||_}
 use mathlib.Core.List.{List}
@@ -15,9 +15,9 @@ use Rattle.point.specs.Limits.{tooMany, badPoints, badTolerance, inRange, place
 use Rattle.point.proofs.Claims.{whole-points}
 use Rattle.point.specs.Points.{count}
 use Rattle.point.proofs.Room.{places-enough}
-use Rattle.reduce.specs.Keep.{shortFor}
-use Rattle.reduce.proofs.keep.Handed.{next}
-use Rattle.reduce.specs.Reduce.{reduceRefusal, whole, narrowed, reduceOutcome}
+use Rattle.reduce.specs.Kept.{shortFor}
+use Rattle.reduce.specs.Reduce.{reduceRefusal, whole, narrowed, reduction}
+use Rattle.reduce.proofs.Room.{next}
 
 -- a list is answered whole
 abbrev pub inWhole : List ℤ → Float → Bool
@@ -34,13 +34,13 @@ module _ (list : List ℤ) (tolerance : Float) where
   many-points e = leb-false (count list) 2 (both-false (leb (count list) 2) (eq tolerance (ofInt binary64 (pos 0))) e .0)
 
   module _ (out scratch : List ℤ) (marks : List ℕ) where
-    pub answers-whole : inWhole list tolerance ≡ true → reduceOutcome none list tolerance out scratch marks ≡ whole list out scratch marks
-    unfolding reduceOutcome
-    answers-whole e = rw (e, reduceOutcome)
+    pub answers-whole : inWhole list tolerance ≡ true → reduction list tolerance out scratch marks ≡ whole list out scratch marks
+    unfolding reduction
+    answers-whole e = rw (e, reduction)
 
-    pub answers-narrowed : inWhole list tolerance ≡ false → reduceOutcome none list tolerance out scratch marks ≡ narrowed list tolerance out scratch marks
-    unfolding reduceOutcome
-    answers-narrowed e = rw (e, reduceOutcome)
+    pub answers-narrowed : inWhole list tolerance ≡ false → reduction list tolerance out scratch marks ≡ narrowed list tolerance out scratch marks
+    unfolding reduction
+    answers-narrowed e = rw (e, reduction)
 
 -- ---- where nothing is refused, the points are good and there is room
 
