@@ -25,7 +25,7 @@ use Rattle.split.specs.Distance.{sqSegDist}
 use Rattle.split.specs.Farthest.{distanceIn, farthest}
 use Rattle.split.specs.Tree.{framed, spanTree, tree, cut, down, marksOf, numbersOf}
 use Rattle.split.proofs.Distances.{Small, distance-below, distance-nonneg}
-use Rattle.split.proofs.Frames.{framed-many, framed-one}
+use Rattle.split.proofs.Framed.{framed-many, framed-one}
 use Rattle.nesting.proofs.Tolerances.{lower-keeps}
 use Rattle.split.proofs.Trees.{Each, each-map, split-inside}
 use Rattle.nesting.proofs.Farthest.{SmallSpan, at-least, split-greatest, split-earliest, span-distances}
@@ -35,7 +35,7 @@ use Rattle.reduce.specs.Kept.{shortFor}
 use Rattle.reduce.specs.Zoom.{marksBy, mark, zoomOf}
 use Rattle.nesting.proofs.Ends.{by-ends, by-end}
 use Rattle.nesting.proofs.Kept.{marked, kept-by-number, down-any, AllIn, all-at, Bit, cut-bits}
-use Rattle.nesting.proofs.Frames.{framed-map, framed-all}
+use Rattle.nesting.proofs.Framed.{framed-map, framed-all}
 use Rattle.nesting.proofs.Neighbours.{whole, span-between}
 
 -- ---- what document 01 takes

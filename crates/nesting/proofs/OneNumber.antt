@@ -28,7 +28,7 @@ use Rattle.point.proofs.Flat.{length-points, length-flat, points-flat}
 use Rattle.split.specs.Distance.{sqSegDist}
 use Rattle.split.specs.Tree.{tree, down, marksOf, numbersOf}
 use Rattle.split.proofs.Claims.{a-mark-for-each-point, a-number-for-each-point}
-use Rattle.split.proofs.Frames.{framed-many}
+use Rattle.split.proofs.Framed.{framed-many}
 use Rattle.reduce.specs.DouglasPeucker.{keptAndMarked, douglasPeuckerOf}
 use Rattle.reduce.specs.Kept.{select, kept}
 use Rattle.reduce.specs.Numbers.{numberedOf}

@@ -16,7 +16,7 @@ use Rattle.point.proofs.Claims.{whole-points}
 use Rattle.point.specs.Points.{count}
 use Rattle.point.proofs.Room.{places-enough}
 use Rattle.reduce.specs.Kept.{shortFor}
-use Rattle.reduce.specs.Reduce.{reduceRefusal, whole, narrowed, reduction}
+use Rattle.reduce.specs.Reduce.{reduceRefusal, answeredWhole, answeredNarrowed, reduction}
 use Rattle.reduce.proofs.Room.{next}
 
 -- a list is answered whole
@@ -34,11 +34,11 @@ module _ (list : List ℤ) (tolerance : Float) where
   many-points e = leb-false (count list) 2 (both-false (leb (count list) 2) (eq tolerance (ofInt binary64 (pos 0))) e .0)
 
   module _ (out scratch : List ℤ) (marks : List ℕ) where
-    pub answers-whole : inWhole list tolerance ≡ true → reduction list tolerance out scratch marks ≡ whole list out scratch marks
+    pub answers-whole : inWhole list tolerance ≡ true → reduction list tolerance out scratch marks ≡ answeredWhole list out scratch marks
     unfolding reduction
     answers-whole e = rw (e, reduction)
 
-    pub answers-narrowed : inWhole list tolerance ≡ false → reduction list tolerance out scratch marks ≡ narrowed list tolerance out scratch marks
+    pub answers-narrowed : inWhole list tolerance ≡ false → reduction list tolerance out scratch marks ≡ answeredNarrowed list tolerance out scratch marks
     unfolding reduction
     answers-narrowed e = rw (e, reduction)
 

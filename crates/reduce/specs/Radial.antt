@@ -21,6 +21,7 @@ use Rattle.reduce.specs.Kept.{shortFor}
 unfoldable pub sqDist : PointI32 → PointI32 → Float
 sqDist p q = ofInt binary64 ((p .x -ℤ q .x) *ℤ (p .x -ℤ q .x) +ℤ (p .y -ℤ q .y) *ℤ (p .y -ℤ q .y))
 
+-- two points with the same coordinates
 abbrev pub samePoint : PointI32 → PointI32 → Bool
 samePoint p q = leZ (p .x) (q .x) && leZ (q .x) (p .x) && (leZ (p .y) (q .y) && leZ (q .y) (p .y))
 

@@ -33,12 +33,12 @@ reduceRefusal list tolerance out scratch marks =
     none
 
 -- "the input for up to 2 points or tolerance 0": it is answered whole, and nothing else is touched
-abbrev pub whole : List ℤ → List ℤ → List ℤ → List ℕ → Outcome Answer (List ℤ × List ℤ × List ℕ)
-whole list out scratch marks = record { answer = Done (count list); out = (over list out, scratch, marks) }
+abbrev pub answeredWhole : List ℤ → List ℤ → List ℤ → List ℕ → Outcome Answer (List ℤ × List ℤ × List ℕ)
+answeredWhole list out scratch marks = record { answer = Done (count list); out = (over list out, scratch, marks) }
 
 -- "else the radial list in scratch": at half the squared tolerance, and then split at the whole
-abbrev pub narrowed : List ℤ → Float → List ℤ → List ℤ → List ℕ → Outcome Answer (List ℤ × List ℤ × List ℕ)
-narrowed list tolerance out scratch marks =
+abbrev pub answeredNarrowed : List ℤ → Float → List ℤ → List ℤ → List ℕ → Outcome Answer (List ℤ × List ℤ × List ℕ)
+answeredNarrowed list tolerance out scratch marks =
     let sq = mul binary64 tolerance tolerance in
     let ring = flat (radial (mul binary64 sq (ofBits binary64 0x3fe0000000000000)) (points list)) in
     let done = keptAndMarked ring sq out marks in
@@ -48,8 +48,8 @@ narrowed list tolerance out scratch marks =
 unfoldable pub reduction : List ℤ → Float → List ℤ → List ℤ → List ℕ → Outcome Answer (List ℤ × List ℤ × List ℕ)
 unfolding radial kept marksOf flat points over
 reduction list tolerance out scratch marks = elim (leb (count list) 2 || eq tolerance (ofInt binary64 (pos 0))) [
-  | true ↦ whole list out scratch marks
-  | false ↦ narrowed list tolerance out scratch marks
+  | true ↦ answeredWhole list out scratch marks
+  | false ↦ answeredNarrowed list tolerance out scratch marks
 ]
 
 unfoldable pub reduceOf : List ℤ → Float → List ℤ → List ℤ → List ℕ → Outcome Answer (List ℤ × List ℤ × List ℕ)

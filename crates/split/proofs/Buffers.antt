@@ -10,7 +10,7 @@ use borrow.Author.Tests.{lt-ltb, le-ltb, eq-eqb, ne-eqb}
 use Rattle.laws.specs.Lists.{over}
 use Rattle.split.specs.Buffers.{laid}
 use Rattle.split.specs.Tree.{Tree, leaf, framed, spanTree, tree, size}
-use Rattle.split.proofs.Frames.{framed-length}
+use Rattle.split.proofs.Framed.{framed-length}
 use Rattle.split.proofs.Trees.{span-size, tree-none}
 
 module _ {A : Type 0} where

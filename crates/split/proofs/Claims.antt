@@ -15,7 +15,7 @@ use Rattle.split.specs.Buffers.{laidMarks, laidNumbers}
 use Rattle.split.specs.Tree.{cut, down, marksOf, numbersOf}
 use Rattle.split.proofs.Buffers.{laid-over}
 use Rattle.split.proofs.Cuts.{length-cut, length-down}
-use Rattle.split.proofs.Frames.{framed-length}
+use Rattle.split.proofs.Framed.{framed-length}
 use Rattle.split.proofs.marks.mark.Reads.{Post as Mark}
 use Rattle.split.proofs.numbers.number.Reads.{Post as Number}
 

@@ -6,7 +6,7 @@ pub mod Folds
 pub mod Trees
 pub mod Cuts
 pub mod Signs
-pub mod Frames
+pub mod Framed
 pub mod Stores
 pub mod Spans
 pub mod Buffers

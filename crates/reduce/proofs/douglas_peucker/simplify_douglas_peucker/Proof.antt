@@ -68,8 +68,20 @@ module _ (list : List ℤ) (tolerance : Float) (out : List ℤ) (marks : List �
                 let short : length (points list) ≤ length (marksOf tolerance list) = rw (length-points list, each) (omega arith) in
                 let is : now ≡ over (marksOf tolerance list) marks = s ∙ marks-over list tolerance marks o l in
                 rw (
-                  ← m, e, ← b, f, ne-eqb _ _ some, ← w, g, ← p, long-enough _ _ h, le-ltb _ _ l,
-                  d .counted, d .written, is, kept-over (marksOf tolerance list) marks (points list) short,
+                  ← m,
+                  e,
+                  ← b,
+                  f,
+                  ne-eqb _ _ some,
+                  ← w,
+                  g,
+                  ← p,
+                  long-enough _ _ h,
+                  le-ltb _ _ l,
+                  d .counted,
+                  d .written,
+                  is,
+                  kept-over (marksOf tolerance list) marks (points list) short,
                 )
 
 returns-7 : tie.Need-returns-7

@@ -8,7 +8,7 @@ use lib.IntN.{ℤ}
 use borrow.Author.Tests.{ltb-true, ltb-false}
 use Rattle.point.specs.Points.{count}
 use Rattle.split.specs.Tree.{framed}
-use Rattle.split.proofs.Frames.{framed-many, framed-one}
+use Rattle.split.proofs.Framed.{framed-many, framed-one}
 use Rattle.nesting.proofs.Kept.{AllIn, all-append}
 
 module _ (points : List ℤ) where
