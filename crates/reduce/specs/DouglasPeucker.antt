@@ -1,5 +1,5 @@
--- What `simplify_douglas_peucker` answers, and what the two buffers lent to it then hold. A list is laid `over` the start of a buffer: "places past the
--- answer hold theirs".
+-- What `simplify_douglas_peucker` answers, and what the two buffers lent to it then hold. A list is laid `over` the start of a buffer: "places
+-- past the answer hold theirs".
 use Prim.Native.Nat.{ℕ}
 use mathlib.Core.Bool.{_||_}
 use mathlib.Core.List.{List}

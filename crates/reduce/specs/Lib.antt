@@ -1,5 +1,6 @@
--- specs/ is all that you have to believe. Read `Reduce` first: both passes together. `Radial` and `DouglasPeucker` have each pass, `Numbers` and `Zoom` one number
--- per point and the points that it keeps, and `Kept` what marks keep; `Examples` has worked ones. What stands in `inside` nobody need believe.
+-- specs/ is all that you have to believe. Read `Reduce` first: both passes together. `Radial` and `DouglasPeucker` have each pass, `Numbers` and
+-- `Zoom` one number per point and the points that it keeps, and `Kept` what marks keep; `Examples` has worked ones. What stands in `inside` nobody
+-- need believe.
 pub mod Reduce
 pub mod Radial
 pub mod DouglasPeucker

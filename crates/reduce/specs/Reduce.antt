@@ -1,5 +1,5 @@
--- What `reduce` answers, and what the three buffers lent to it then hold. A list is laid `over` the start of a buffer: "places past the answer hold
--- theirs".
+-- What `reduce` answers, and what the three buffers lent to it then hold. A list is laid `over` the start of a buffer: "places past the answer
+-- hold theirs".
 use Prim.Native.Nat.{ℕ, _*_}
 use mathlib.Core.Bool.{true, false, _||_}
 use mathlib.Core.List.{List}

@@ -1,5 +1,5 @@
--- `Claims` has what callers cite. The theorems on splits, marks and numbers that a reader may want stand in the crate `nesting`; these are the laws that the
--- proofs of the functions, and that crate, are made of.
+-- `Claims` has what callers cite. The theorems on splits, marks and numbers that a reader may want stand in the crate `nesting`; these are the
+-- laws that the proofs of the functions, and that crate, are made of.
 pub mod Claims
 pub mod Distances
 pub mod Folds

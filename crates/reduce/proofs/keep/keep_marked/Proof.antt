@@ -27,8 +27,9 @@ module _ (list : List ℤ) (marks : List ℕ) (old : List ℤ) (room : placesFor
     first-place : 0 < length old / 2
     first-place = omega (arith, two-places)
 
-    second-place : (once : List ℤ) → length once ≡ length old → 1 < length once / 2
-    second-place once e = omega (arith, two-places)
+    -- each of the two, so that a wrong one is told by what is written
+    second-place : (once : List ℤ) → length once ≡ length old → (j : ℕ) → j ≤ 1 → j < length once / 2
+    second-place once e j h = omega (arith, two-places)
 
     single : (once twice : List ℤ) → once ≡ placed list 0 0 old → twice ≡ placed list 0 1 once → Handed (kept marks (points list)) old 2 twice
     unfolding placed
@@ -48,7 +49,7 @@ keep-marked-spec =
     tie.close
     (tie.spec
     (λ c κs. (search needs, search first-place))  -- copy-point-requires
-    (λ c κs. (search needs, search second-place))  -- copy-point-requires-2
+    (λ c κs. (search needs, search (second-place, needs)))  -- copy-point-requires-2
     (λ c. search needs)  -- same-length
     (λ c. search single)  -- returns
     (λ c κs. (search needs, search as-many))  -- copy-marked-requires
