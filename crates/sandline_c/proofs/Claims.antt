@@ -37,37 +37,37 @@ use Rattle.util.specs.Area.{signedAreaOf}
 use Rattle.walker.specs.Walk.{walked as walkOf}
 use Rattle.sandline_c.specs.Handed.{Counted, Valued, passed, points, numbered, flagged, marked, reduced, walked, written, pictured, subdivided, crossing, started, celled, signed, midway, measured, begun, advancedTo}
 use Rattle.sandline_c.specs.Read.{chart, point, place, placeAt, pair, settings, crossed}
-use Rattle.sandline_c.specs.declared.spiralling.Begun.{Begun}
-use Rattle.sandline_c.proofs.geometry.sandline_sqrt.Reads.{Post as Sqrt}
-use Rattle.sandline_c.proofs.geometry.sandline_sqrt_bits.Reads.{Post as Sqrt-bits}
-use Rattle.sandline_c.proofs.geometry.sandline_signed_area.Reads.{Post as Signed-area}
-use Rattle.sandline_c.proofs.geometry.sandline_find_mid_point.Reads.{Post as Find-mid-point}
-use Rattle.sandline_c.proofs.geometry.sandline_norm.Reads.{Post as Norm}
-use Rattle.sandline_c.proofs.geometry.sandline_norm_i32.Reads.{Post as Norm-i32}
-use Rattle.sandline_c.proofs.crossings.sandline_find_intersection.Reads.{Post as Find-intersection}
-use Rattle.sandline_c.proofs.crossings.sandline_outside.Reads.{Post as Outside}
-use Rattle.sandline_c.proofs.crossings.sandline_inside.Reads.{Post as Inside}
-use Rattle.sandline_c.proofs.crossings.sandline_coincide.Reads.{Post as Coincide}
-use Rattle.sandline_c.proofs.overlay.sandline_pixel.Reads.{Post as Pixel}
-use Rattle.sandline_c.proofs.overlay.sandline_area.Reads.{Post as Area}
-use Rattle.sandline_c.proofs.overlay.sandline_first_start.Reads.{Post as First-start}
-use Rattle.sandline_c.proofs.overlay.sandline_walk.Reads.{Post as Walk}
-use Rattle.sandline_c.proofs.overlay.sandline_answer.Reads.{Post as Answer}
-use Rattle.sandline_c.proofs.pictures.sandline_read_pbm.Reads.{Post as Read-pbm}
-use Rattle.sandline_c.proofs.pictures.sandline_write_pbm.Reads.{Post as Write-pbm}
-use Rattle.sandline_c.proofs.smoothing.sandline_find_corners.Reads.{Post as Find-corners}
-use Rattle.sandline_c.proofs.smoothing.sandline_subdivide_keep_corners.Reads.{Post as Subdivide-keep-corners}
+use Rattle.sandline_c.specs.declared.spiral_c.Begun.{Begun}
+use Rattle.sandline_c.proofs.sqrt_c.sandline_sqrt.Reads.{Post as Sqrt}
+use Rattle.sandline_c.proofs.sqrt_c.sandline_sqrt_bits.Reads.{Post as Sqrt-bits}
+use Rattle.sandline_c.proofs.util_c.sandline_signed_area.Reads.{Post as Signed-area}
+use Rattle.sandline_c.proofs.util_c.sandline_find_mid_point.Reads.{Post as Find-mid-point}
+use Rattle.sandline_c.proofs.util_c.sandline_norm.Reads.{Post as Norm}
+use Rattle.sandline_c.proofs.util_c.sandline_norm_i32.Reads.{Post as Norm-i32}
+use Rattle.sandline_c.proofs.util_c.crossing.sandline_find_intersection.Reads.{Post as Find-intersection}
+use Rattle.sandline_c.proofs.util_c.crossing.sandline_outside.Reads.{Post as Outside}
+use Rattle.sandline_c.proofs.util_c.crossing.sandline_inside.Reads.{Post as Inside}
+use Rattle.sandline_c.proofs.util_c.crossing.sandline_coincide.Reads.{Post as Coincide}
+use Rattle.sandline_c.proofs.chart_c.sandline_pixel.Reads.{Post as Pixel}
+use Rattle.sandline_c.proofs.chart_c.sandline_area.Reads.{Post as Area}
+use Rattle.sandline_c.proofs.chart_c.sandline_first_start.Reads.{Post as First-start}
+use Rattle.sandline_c.proofs.walker_c.sandline_walk.Reads.{Post as Walk}
+use Rattle.sandline_c.proofs.frames_c.sandline_answer.Reads.{Post as Answer}
+use Rattle.sandline_c.proofs.pbm_c.sandline_read_pbm.Reads.{Post as Read-pbm}
+use Rattle.sandline_c.proofs.pbm_c.sandline_write_pbm.Reads.{Post as Write-pbm}
+use Rattle.sandline_c.proofs.corners_c.sandline_find_corners.Reads.{Post as Find-corners}
+use Rattle.sandline_c.proofs.smooth_c.sandline_subdivide_keep_corners.Reads.{Post as Subdivide-keep-corners}
 use Rattle.laws.proofs.Determined.{Determined, same}
-use Rattle.sandline_c.proofs.thinning.sandline_remove_staircase.Reads.{Post as Remove-staircase}
-use Rattle.sandline_c.proofs.thinning.sandline_limit_penalties.Reads.{Post as Limit-penalties}
-use Rattle.sandline_c.proofs.thinning.sandline_simplify.Reads.{Post as Simplify}
-use Rattle.sandline_c.proofs.thinning.sandline_simplify_radial_dist.Reads.{Post as Simplify-radial-dist}
-use Rattle.sandline_c.proofs.thinning.sandline_simplify_douglas_peucker.Reads.{Post as Simplify-douglas-peucker}
-use Rattle.sandline_c.proofs.thinning.sandline_reduce.Reads.{Post as Reduce}
-use Rattle.sandline_c.proofs.thinning.sandline_numbers.Reads.{Post as Numbers}
-use Rattle.sandline_c.proofs.thinning.sandline_zoom.Reads.{Post as Zoom}
-use Rattle.sandline_c.proofs.spiralling.sandline_spiral as spiral
-use Rattle.sandline_c.proofs.spiralling.sandline_spiral_advance as spiral-advance
+use Rattle.sandline_c.proofs.simplify_c.sandline_remove_staircase.Reads.{Post as Remove-staircase}
+use Rattle.sandline_c.proofs.simplify_c.sandline_limit_penalties.Reads.{Post as Limit-penalties}
+use Rattle.sandline_c.proofs.simplify_c.sandline_simplify.Reads.{Post as Simplify}
+use Rattle.sandline_c.proofs.reduce_c.sandline_simplify_radial_dist.Reads.{Post as Simplify-radial-dist}
+use Rattle.sandline_c.proofs.reduce_c.sandline_simplify_douglas_peucker.Reads.{Post as Simplify-douglas-peucker}
+use Rattle.sandline_c.proofs.reduce_c.sandline_reduce.Reads.{Post as Reduce}
+use Rattle.sandline_c.proofs.reduce_c.sandline_numbers.Reads.{Post as Numbers}
+use Rattle.sandline_c.proofs.reduce_c.sandline_zoom.Reads.{Post as Zoom}
+use Rattle.sandline_c.proofs.spiral_c.sandline_spiral as spiral
+use Rattle.sandline_c.proofs.spiral_c.sandline_spiral_advance as spiral-advance
 
 -- ---- each contract leaves no choice. `Post` is the contract itself, as Rattle reads it off the source, at arguments `a`, a result `r` and parameters at exit `s`.
 -- Where it reads the same of two calls' arguments, `given`, they tell the same: `told` is the result with the last contents of all that was lent.

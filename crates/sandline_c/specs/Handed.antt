@@ -35,7 +35,7 @@ use Rattle.spiral.specs.declared.SpiralWalker.{SpiralWalker}
 use Rattle.util.specs.declared.Signed.{Signed}
 use Rattle.walker.specs.Answers.{walkedNumber, walkedCount}
 use Rattle.walker.specs.Walk.{Outcome as Walk}
-use Rattle.sandline_c.specs.declared.spiralling.Begun.{Begun}
+use Rattle.sandline_c.specs.declared.spiral_c.Begun.{Begun}
 
 -- ---- a number, a count of points, and what every buffer holds
 
