@@ -1,4 +1,6 @@
-// Spirals: a square of pixels, one by one from its centre outwards, in the caller's own struct.
+// Spirals: a square of pixels, one by one from its centre outwards.
+//
+// A spiral stands in the caller's own struct.
 ghost use mathlib.Core.Path.{_≡_};
 ghost use Rattle.spiral.specs.Spiral.{freshSpiral, advanced};
 ghost use Rattle.sandline_c.specs.Handed.{begun, stepped, advancedTo};

@@ -1,4 +1,4 @@
-//! A square of pixels, one by one from its centre outwards.
+//! Spirals: a square of pixels, one by one from its centre outwards.
 
 use crate::refusal::{answered, handed};
 use crate::{raw, Point, Refusal};

@@ -1,51 +1,7 @@
-//! Corners, and one round of subdivision.
+//! Smoothing: one round of subdivision.
 
-use crate::refusal::{answered, handed};
-use crate::{raw, Point, PointF64, Refusal};
-
-/// The angle from which on a turn is a corner: `c` and `s` are proportional to its cosine and sine, so that
-/// 0 and 1 stand for 90 degrees. `c` is -1,000 to 1,000, `s` 1 to 1,000.
-#[derive(Clone, Copy, Debug, PartialEq, Eq)]
-pub struct Pair {
-    /// Proportional to the cosine.
-    pub c: i32,
-    /// Proportional to the sine.
-    pub s: i32,
-}
-
-/// Puts a flag for each point at the start of `flags`, 1 for a corner, and answers how many those are. An
-/// open list's ends are corners. A closed list's last point, which repeats the first, has no flag. Exact, in
-/// whole numbers.
-///
-/// Asks for as many flags as it answers.
-///
-/// ```
-/// use sandline::{find_corners, Pair};
-/// let square = [[0, 0], [4, 0], [4, 4], [0, 4], [0, 0]];
-/// let mut flags = [9; 5];
-/// assert_eq!(find_corners(&square, Pair { c: 0, s: 1 }, true, &mut flags), Ok(4));
-/// assert_eq!(flags, [1, 1, 1, 1, 9]);
-/// ```
-pub fn find_corners(
-    points: &[Point],
-    pair: Pair,
-    closed: bool,
-    flags: &mut [u8],
-) -> Result<usize, Refusal> {
-    let points = points.as_flattened();
-    answered(0, |count| unsafe {
-        raw::sandline_find_corners(
-            points.as_ptr(),
-            points.len(),
-            pair.c,
-            pair.s,
-            closed,
-            flags.as_mut_ptr(),
-            flags.len(),
-            count,
-        )
-    })
-}
+use crate::refusal::handed;
+use crate::{raw, PointF64, Refusal};
 
 /// What a round of subdivision goes by.
 #[derive(Clone, Copy, Debug, PartialEq)]
@@ -67,8 +23,8 @@ pub struct Subdivided {
 }
 
 /// One round of subdivision: between two points a third may enter, a little outside, so that the outline is
-/// smoother; corners stay. `corners` has a flag for each point, as [`find_corners`] puts them. What comes
-/// out stands at the start of `out`, its flags at the start of `flags`.
+/// smoother; corners stay. `corners` has a flag for each point, as [`find_corners`](crate::find_corners) puts
+/// them. What comes out stands at the start of `out`, its flags at the start of `flags`.
 ///
 /// Asks for `2 * points.len() - 1` places and as many flags, and for none where there are no points.
 ///

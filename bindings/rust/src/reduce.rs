@@ -1,4 +1,4 @@
-//! Fewer points, the wider the tolerance.
+//! Zooms: fewer points, the wider the tolerance.
 
 use crate::refusal::answered;
 use crate::{raw, Point, Refusal};

@@ -1,4 +1,4 @@
-//! Charts out of Netpbm's PBM files, and into them.
+//! Pictures: charts out of Netpbm's PBM files, and into them.
 
 use crate::refusal::{answered, handed};
 use crate::{raw, Chart, Refusal};

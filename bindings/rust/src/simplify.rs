@@ -1,4 +1,4 @@
-//! Fewer points for a walked outline.
+//! Simplification: an outline without staircases, and without the points that cost little.
 //!
 //! Each call puts what is left at the start of `out` and answers how many points that is. It asks for
 //! `places(points.len())` places.
