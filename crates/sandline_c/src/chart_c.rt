@@ -3,15 +3,15 @@ ghost use mathlib.Core.Path.{_≡_};
 ghost use Rattle.chart.specs.Area.{areaOf};
 ghost use Rattle.chart.specs.Pixels.{pixelAt};
 ghost use Rattle.chart.specs.Start.{firstStart};
-ghost use Rattle.sandline_c.specs.Handed.{started, celled};
-ghost use Rattle.sandline_c.specs.Read.{chart as chartOf};
+ghost use Rattle.sandline_c.specs.Handed.{startForC, areaForC};
+ghost use Rattle.sandline_c.specs.Read.{chartFrom};
 use chart::Chart;
 use chart::Start;
 
 // Whether a pixel of a chart is set; none is outside of it.
 #[no_mangle]
 pub extern "C" fn sandline_pixel(width: usize, height: usize, pixels: &[u8], x: i32, y: i32) -> bool
-    ensures { λ r. ⌜ r ≡ pixelAt (chartOf width height) (now (pixels .entry)) x y ⌝ }
+    ensures { λ r. ⌜ r ≡ pixelAt (chartFrom width height) (now (pixels .entry)) x y ⌝ }
 {
     let chart = Chart {
         width: width,
@@ -28,7 +28,7 @@ pub extern "C" fn sandline_area(
     pixels: &[u8],
     count: &mut [usize; 1],
 ) -> u8
-    ensures { λ r. ⌜ record { number = r; values = now (count .exit) } ≡ celled (areaOf (chartOf width height) (now (pixels .entry))) ⌝ }
+    ensures { λ r. ⌜ record { answer = r; out = now (count .exit) } ≡ areaForC (areaOf (chartFrom width height) (now (pixels .entry))) ⌝ }
 {
     let chart = Chart {
         width: width,
@@ -47,8 +47,8 @@ pub extern "C" fn sandline_first_start(
     pixels: &[u8],
     start: &mut [i32; 2],
 ) -> u8
-    ensures { λ r. ⌜ record { number = r; values = now (start .exit) }
-        ≡ started (firstStart (chartOf width height) (now (pixels .entry))) (now (start .entry)) ⌝ }
+    ensures { λ r. ⌜ record { answer = r; out = now (start .exit) }
+        ≡ startForC (firstStart (chartFrom width height) (now (pixels .entry))) (now (start .entry)) ⌝ }
 {
     let chart = Chart {
         width: width,

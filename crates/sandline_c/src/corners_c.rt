@@ -1,8 +1,8 @@
 // Corners: where an outline turns.
 ghost use mathlib.Core.Path.{_≡_};
 ghost use Rattle.corners.specs.Calls.{findCornersOf};
-ghost use Rattle.sandline_c.specs.Handed.{flagged};
-ghost use Rattle.sandline_c.specs.Read.{pair};
+ghost use Rattle.sandline_c.specs.Handed.{flagsForC};
+ghost use Rattle.sandline_c.specs.Read.{pairFrom};
 use crate::handing::hand;
 use corners::Pair;
 
@@ -16,8 +16,8 @@ pub extern "C" fn sandline_find_corners(
     flags: &mut [u8],
     count: &mut [usize; 1],
 ) -> u8
-    ensures { λ r. ⌜ record { number = r; count = now (count .exit); buffers = now (flags .exit) }
-        ≡ flagged (findCornersOf (now (points .entry)) (pair c s) closed (now (flags .entry))) ⌝ }
+    ensures { λ r. ⌜ record { answer = r; out = (now (flags .exit), now (count .exit)) }
+        ≡ flagsForC (findCornersOf (now (points .entry)) (pairFrom c s) closed (now (flags .entry))) ⌝ }
 {
     hand(
         corners::find_corners(points, Pair { c: c, s: s }, closed, flags),

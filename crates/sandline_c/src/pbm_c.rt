@@ -1,8 +1,8 @@
 // Pictures: charts out of Netpbm's PBM files, and into them.
 ghost use mathlib.Core.Path.{_≡_};
 ghost use Rattle.pbm.specs.Calls.{readOf, writtenOf};
-ghost use Rattle.sandline_c.specs.Handed.{pictured, written};
-ghost use Rattle.sandline_c.specs.Read.{chart as chartOf};
+ghost use Rattle.sandline_c.specs.Handed.{pictureForC, fileForC};
+ghost use Rattle.sandline_c.specs.Read.{chartFrom};
 use crate::handing::hand;
 use chart::Chart;
 use pbm::Picture;
@@ -17,8 +17,8 @@ pub extern "C" fn sandline_read_pbm(
     height: &mut [usize; 1],
     count: &mut [usize; 1],
 ) -> u8
-    ensures { λ r. ⌜ record { number = r; count = now (count .exit); buffers = (now (pixels .exit), now (width .exit), now (height .exit)) }
-        ≡ pictured (readOf (now (file .entry)) (now (pixels .entry))) (now (width .entry)) (now (height .entry)) ⌝ }
+    ensures { λ r. ⌜ record { answer = r; out = (now (pixels .exit), now (width .exit), now (height .exit), now (count .exit)) }
+        ≡ pictureForC (readOf (now (file .entry)) (now (pixels .entry))) (now (width .entry)) (now (height .entry)) ⌝ }
 {
     match pbm::read_pbm(file, pixels) {
         Picture::Read { chart, bytes } => {
@@ -43,8 +43,8 @@ pub extern "C" fn sandline_write_pbm(
     out: &mut [u8],
     count: &mut [usize; 1],
 ) -> u8
-    ensures { λ r. ⌜ record { number = r; count = now (count .exit); buffers = now (out .exit) }
-        ≡ written (writtenOf (chartOf width height) (now (pixels .entry)) (now (out .entry))) ⌝ }
+    ensures { λ r. ⌜ record { answer = r; out = (now (out .exit), now (count .exit)) }
+        ≡ fileForC (writtenOf (chartFrom width height) (now (pixels .entry)) (now (out .entry))) ⌝ }
 {
     let chart = Chart {
         width: width,

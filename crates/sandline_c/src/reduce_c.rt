@@ -1,7 +1,7 @@
 // Zooms: fewer points, the wider the tolerance.
 ghost use mathlib.Core.Path.{_≡_};
 ghost use Rattle.reduce.specs.Reduce.{radialOf, douglasPeuckerOf, reduceOf, numberedOf, zoomOf};
-ghost use Rattle.sandline_c.specs.Handed.{points as handedPoints, numbered, marked, reduced};
+ghost use Rattle.sandline_c.specs.Handed.{pointsForC, numbersForC, marksForC, reducedForC};
 use crate::handing::hand;
 
 // The points that the radial pass leaves at a squared tolerance.
@@ -12,8 +12,8 @@ pub extern "C" fn sandline_simplify_radial_dist(
     out: &mut [i32],
     count: &mut [usize; 1],
 ) -> u8
-    ensures { λ r. ⌜ record { number = r; count = now (count .exit); buffers = now (out .exit) }
-        ≡ handedPoints (radialOf (now (points .entry)) tolerance (now (out .entry))) ⌝ }
+    ensures { λ r. ⌜ record { answer = r; out = (now (out .exit), now (count .exit)) }
+        ≡ pointsForC (radialOf (now (points .entry)) tolerance (now (out .entry))) ⌝ }
 {
     hand(reduce::simplify_radial_dist(points, tolerance, out), count)
 }
@@ -27,8 +27,8 @@ pub extern "C" fn sandline_simplify_douglas_peucker(
     marks: &mut [u8],
     count: &mut [usize; 1],
 ) -> u8
-    ensures { λ r. ⌜ record { number = r; count = now (count .exit); buffers = (now (out .exit), now (marks .exit)) }
-        ≡ marked (douglasPeuckerOf (now (points .entry)) tolerance (now (out .entry)) (now (marks .entry))) ⌝ }
+    ensures { λ r. ⌜ record { answer = r; out = ((now (out .exit), now (marks .exit)), now (count .exit)) }
+        ≡ marksForC (douglasPeuckerOf (now (points .entry)) tolerance (now (out .entry)) (now (marks .entry))) ⌝ }
 {
     hand(
         reduce::simplify_douglas_peucker(points, tolerance, out, marks),
@@ -46,8 +46,8 @@ pub extern "C" fn sandline_reduce(
     marks: &mut [u8],
     count: &mut [usize; 1],
 ) -> u8
-    ensures { λ r. ⌜ record { number = r; count = now (count .exit); buffers = (now (out .exit), now (scratch .exit), now (marks .exit)) }
-        ≡ reduced (reduceOf (now (points .entry)) tolerance (now (out .entry)) (now (scratch .entry)) (now (marks .entry))) ⌝ }
+    ensures { λ r. ⌜ record { answer = r; out = ((now (out .exit), now (scratch .exit), now (marks .exit)), now (count .exit)) }
+        ≡ reducedForC (reduceOf (now (points .entry)) tolerance (now (out .entry)) (now (scratch .entry)) (now (marks .entry))) ⌝ }
 {
     hand(
         reduce::reduce(points, tolerance, out, scratch, marks),
@@ -58,8 +58,8 @@ pub extern "C" fn sandline_reduce(
 // One number for each point.
 #[no_mangle]
 pub extern "C" fn sandline_numbers(points: &[i32], out: &mut [f64], count: &mut [usize; 1]) -> u8
-    ensures { λ r. ⌜ record { number = r; count = now (count .exit); buffers = now (out .exit) }
-        ≡ numbered (numberedOf (now (points .entry)) (now (out .entry))) ⌝ }
+    ensures { λ r. ⌜ record { answer = r; out = (now (out .exit), now (count .exit)) }
+        ≡ numbersForC (numberedOf (now (points .entry)) (now (out .entry))) ⌝ }
 {
     hand(reduce::numbers(points, out), count)
 }
@@ -73,8 +73,8 @@ pub extern "C" fn sandline_zoom(
     out: &mut [i32],
     count: &mut [usize; 1],
 ) -> u8
-    ensures { λ r. ⌜ record { number = r; count = now (count .exit); buffers = now (out .exit) }
-        ≡ handedPoints (zoomOf (now (points .entry)) (now (numbers .entry)) tolerance (now (out .entry))) ⌝ }
+    ensures { λ r. ⌜ record { answer = r; out = (now (out .exit), now (count .exit)) }
+        ≡ pointsForC (zoomOf (now (points .entry)) (now (numbers .entry)) tolerance (now (out .entry))) ⌝ }
 {
     hand(reduce::zoom(points, numbers, tolerance, out), count)
 }

@@ -1,7 +1,7 @@
 // Simplification: an outline without staircases, and without the points that cost little.
 ghost use mathlib.Core.Path.{_≡_};
 ghost use Rattle.simplify.specs.Simplify.{staircaseOf, penaltiesOf, simplifyOf};
-ghost use Rattle.sandline_c.specs.Handed.{passed};
+ghost use Rattle.sandline_c.specs.Handed.{answerForC};
 use crate::handing::hand;
 
 // The points that are left without one-pixel staircases.
@@ -12,8 +12,8 @@ pub extern "C" fn sandline_remove_staircase(
     out: &mut [i32],
     count: &mut [usize; 1],
 ) -> u8
-    ensures { λ r. ⌜ record { number = r; count = now (count .exit); buffers = now (out .exit) }
-        ≡ passed (staircaseOf (now (points .entry)) clockwise (now (out .entry))) ⌝ }
+    ensures { λ r. ⌜ record { answer = r; out = (now (out .exit), now (count .exit)) }
+        ≡ answerForC (staircaseOf (now (points .entry)) clockwise (now (out .entry))) ⌝ }
 {
     hand(simplify::remove_staircase(points, clockwise, out), count)
 }
@@ -25,8 +25,8 @@ pub extern "C" fn sandline_limit_penalties(
     out: &mut [i32],
     count: &mut [usize; 1],
 ) -> u8
-    ensures { λ r. ⌜ record { number = r; count = now (count .exit); buffers = now (out .exit) }
-        ≡ passed (penaltiesOf (now (points .entry)) (now (out .entry))) ⌝ }
+    ensures { λ r. ⌜ record { answer = r; out = (now (out .exit), now (count .exit)) }
+        ≡ answerForC (penaltiesOf (now (points .entry)) (now (out .entry))) ⌝ }
 {
     hand(simplify::limit_penalties(points, out), count)
 }
@@ -39,8 +39,8 @@ pub extern "C" fn sandline_simplify(
     out: &mut [i32],
     count: &mut [usize; 1],
 ) -> u8
-    ensures { λ r. ⌜ record { number = r; count = now (count .exit); buffers = now (out .exit) }
-        ≡ passed (simplifyOf (now (points .entry)) clockwise (now (out .entry))) ⌝ }
+    ensures { λ r. ⌜ record { answer = r; out = (now (out .exit), now (count .exit)) }
+        ≡ answerForC (simplifyOf (now (points .entry)) clockwise (now (out .entry))) ⌝ }
 {
     hand(simplify::simplify(points, clockwise, out), count)
 }

@@ -1,8 +1,8 @@
 // Smoothing: one round of subdivision.
 ghost use mathlib.Core.Path.{_≡_};
 ghost use Rattle.smooth.specs.Calls.{subdividedOf};
-ghost use Rattle.sandline_c.specs.Handed.{subdivided};
-ghost use Rattle.sandline_c.specs.Read.{settings};
+ghost use Rattle.sandline_c.specs.Handed.{roundForC};
+ghost use Rattle.sandline_c.specs.Read.{settingsFrom};
 use smooth::Settings;
 use smooth::Subdivided;
 
@@ -20,8 +20,8 @@ pub extern "C" fn sandline_subdivide_keep_corners(
     count: &mut [usize; 1],
     finished: &mut [bool; 1],
 ) -> u8
-    ensures { λ r. ⌜ record { number = r; count = now (count .exit); buffers = (now (out .exit), now (flags .exit), now (finished .exit)) }
-        ≡ subdivided (subdividedOf (now (points .entry)) (now (corners .entry)) (settings ratio length) closed (now (out .entry)) (now (flags .entry)))
+    ensures { λ r. ⌜ record { answer = r; out = (now (out .exit), now (flags .exit), now (count .exit), now (finished .exit)) }
+        ≡ roundForC (subdividedOf (now (points .entry)) (now (corners .entry)) (settingsFrom ratio length) closed (now (out .entry)) (now (flags .entry)))
         (now (finished .entry)) ⌝ }
 {
     let settings = Settings {

@@ -2,13 +2,14 @@
 //
 // A spiral stands in the caller's own struct.
 ghost use mathlib.Core.Path.{_≡_};
+ghost use Rattle.spiral.specs.Answers.{freshNumber};
 ghost use Rattle.spiral.specs.Spiral.{freshSpiral, advanced};
-ghost use Rattle.sandline_c.specs.Handed.{begun, stepped, advancedTo};
+ghost use Rattle.sandline_c.specs.Handed.{freshOr, spiralForC, stepForC, advanceForC};
 use spiral::Advanced;
 use spiral::Fresh;
 use spiral::SpiralWalker;
 
-// What is handed out for a size, and what the caller's struct then holds.
+// The number that is answered for a size, and what the caller's struct then holds.
 pub struct Begun {
     pub number: u8,
     pub spiral: SpiralWalker,
@@ -17,16 +18,16 @@ pub struct Begun {
 // The spiral of a square of `size` by `size`, before its first step.
 #[no_mangle]
 pub extern "C" fn sandline_spiral(size: usize, fresh: &mut SpiralWalker) -> u8
-    ensures { λ r. ⌜ record { number = r; spiral = now (fresh .exit) } ≡ begun (freshSpiral size) (now (fresh .entry)) ⌝ }
+    ensures { λ r. ⌜ record { answer = r; out = now (fresh .exit) } ≡ spiralForC (freshSpiral size) (now (fresh .entry)) ⌝ }
 {
     let begun = begin(size, *fresh);
     *fresh = begun.spiral;
     begun.number
 }
 
-// The number that is answered, and what the struct then holds: a fresh spiral or, refused, the `old` one.
+// A fresh spiral or, refused, the `old` one.
 fn begin(size: usize, old: SpiralWalker) -> Begun
-    ensures { λ r. ⌜ r ≡ begun (freshSpiral size) old ⌝ }
+    ensures { λ r. ⌜ (r .number ≡ freshNumber (freshSpiral size)) × (r .spiral ≡ freshOr (freshSpiral size) old) ⌝ }
 {
     match spiral::spiral(size) {
         Fresh::Ready(s) => Begun {
@@ -47,15 +48,15 @@ pub extern "C" fn sandline_spiral_advance(
     place: &mut [i32; 2],
     count: &mut [usize; 1],
 ) -> u8
-    ensures { λ r. ⌜ record { number = r; count = now (count .exit); buffers = (now (s .exit), now (place .exit)) }
-        ≡ advancedTo (advanced (now (s .entry))) (now (place .entry)) ⌝ }
+    ensures { λ r. ⌜ record { answer = r; out = (now (s .exit), now (place .exit), now (count .exit)) }
+        ≡ advanceForC (advanced (now (s .entry))) (now (place .entry)) ⌝ }
 {
     put_step(spiral::spiral_advance(s), place, count)
 }
 
 // What a step answers, put where it was asked for.
 fn put_step(step: Advanced, place: &mut [i32; 2], count: &mut [usize; 1]) -> u8
-    ensures { λ r. ⌜ record { number = r; count = now (count .exit); buffers = now (place .exit) } ≡ stepped step (now (place .entry)) ⌝ }
+    ensures { λ r. ⌜ record { answer = r; out = (now (place .exit), now (count .exit)) } ≡ stepForC step (now (place .entry)) ⌝ }
 {
     match step {
         Advanced::At(p) => {

@@ -5,8 +5,8 @@ ghost use mathlib.Core.Path.{_≡_};
 ghost use Rattle.point.specs.Points.{pointAt};
 ghost use Rattle.util.specs.Area.{signedAreaOf};
 ghost use Rattle.util.specs.Measures.{middleOf, normOf, normOfI32};
-ghost use Rattle.sandline_c.specs.Handed.{signed, midway, measured};
-ghost use Rattle.sandline_c.specs.Read.{point as pointOf, place, placeAt};
+ghost use Rattle.sandline_c.specs.Handed.{signedAreaForC, midPointForC, lengthForC};
+ghost use Rattle.sandline_c.specs.Read.{pointFrom, pointF64From, pointF64At};
 use point::PointF64;
 use point::PointI32;
 use util::Measure;
@@ -16,8 +16,8 @@ use util::Signed;
 // The signed area of three points, x, y, x, y, x, y.
 #[no_mangle]
 pub extern "C" fn sandline_signed_area(points: &[i32; 6], area: &mut [i32; 1]) -> u8
-    ensures { λ r. ⌜ record { number = r; values = now (area .exit) }
-        ≡ signed (signedAreaOf (pointAt (now (points .entry)) 0) (pointAt (now (points .entry)) 1) (pointAt (now (points .entry)) 2)) (now (area .entry)) ⌝ }
+    ensures { λ r. ⌜ record { answer = r; out = now (area .exit) }
+        ≡ signedAreaForC (signedAreaOf (pointAt (now (points .entry)) 0) (pointAt (now (points .entry)) 1) (pointAt (now (points .entry)) 2)) (now (area .entry)) ⌝ }
 {
     let p1 = PointI32 {
         x: points[0],
@@ -43,8 +43,8 @@ pub extern "C" fn sandline_signed_area(points: &[i32; 6], area: &mut [i32; 1]) -
 // The midpoint of two points, x, y, x, y.
 #[no_mangle]
 pub extern "C" fn sandline_find_mid_point(points: &[f64; 4], middle: &mut [f64; 2]) -> u8
-    ensures { λ r. ⌜ record { number = r; values = now (middle .exit) }
-        ≡ midway (middleOf (placeAt (now (points .entry)) 0) (placeAt (now (points .entry)) 1)) (now (middle .entry)) ⌝ }
+    ensures { λ r. ⌜ record { answer = r; out = now (middle .exit) }
+        ≡ midPointForC (middleOf (pointF64At (now (points .entry)) 0) (pointF64At (now (points .entry)) 1)) (now (middle .entry)) ⌝ }
 {
     let p1 = PointF64 {
         x: points[0],
@@ -66,7 +66,7 @@ pub extern "C" fn sandline_find_mid_point(points: &[f64; 4], middle: &mut [f64; 
 // The length of a vector.
 #[no_mangle]
 pub extern "C" fn sandline_norm(x: f64, y: f64, length: &mut [f64; 1]) -> u8
-    ensures { λ r. ⌜ record { number = r; values = now (length .exit) } ≡ measured (normOf (place x y)) (now (length .entry)) ⌝ }
+    ensures { λ r. ⌜ record { answer = r; out = now (length .exit) } ≡ lengthForC (normOf (pointF64From x y)) (now (length .entry)) ⌝ }
 {
     put_measure(util::norm(PointF64 { x: x, y: y }), length)
 }
@@ -74,14 +74,14 @@ pub extern "C" fn sandline_norm(x: f64, y: f64, length: &mut [f64; 1]) -> u8
 // The length of a vector of whole numbers.
 #[no_mangle]
 pub extern "C" fn sandline_norm_i32(x: i32, y: i32, length: &mut [f64; 1]) -> u8
-    ensures { λ r. ⌜ record { number = r; values = now (length .exit) } ≡ measured (normOfI32 (pointOf x y)) (now (length .entry)) ⌝ }
+    ensures { λ r. ⌜ record { answer = r; out = now (length .exit) } ≡ lengthForC (normOfI32 (pointFrom x y)) (now (length .entry)) ⌝ }
 {
     put_measure(util::norm_i32(PointI32 { x: x, y: y }), length)
 }
 
 // A length, put where it was asked for.
 fn put_measure(measure: Measure, length: &mut [f64; 1]) -> u8
-    ensures { λ r. ⌜ record { number = r; values = now (length .exit) } ≡ measured measure (now (length .entry)) ⌝ }
+    ensures { λ r. ⌜ record { answer = r; out = now (length .exit) } ≡ lengthForC measure (now (length .entry)) ⌝ }
 {
     match measure {
         Measure::Is(l) => {

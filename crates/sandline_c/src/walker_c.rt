@@ -1,8 +1,8 @@
 // Walks along the outline of what is set.
 ghost use mathlib.Core.Path.{_≡_};
-ghost use Rattle.walker.specs.Walk.{walked as walkOf};
-ghost use Rattle.sandline_c.specs.Handed.{walked};
-ghost use Rattle.sandline_c.specs.Read.{chart as chartOf, point as pointOf};
+ghost use Rattle.walker.specs.Walk.{walked};
+ghost use Rattle.sandline_c.specs.Handed.{walkForC};
+ghost use Rattle.sandline_c.specs.Read.{chartFrom, pointFrom};
 use chart::Chart;
 use point::PointI32;
 
@@ -18,8 +18,8 @@ pub extern "C" fn sandline_walk(
     out: &mut [i32],
     count: &mut [usize; 1],
 ) -> u8
-    ensures { λ r. ⌜ record { number = r; count = now (count .exit); buffers = now (out .exit) }
-        ≡ walked (walkOf (chartOf width height) (now (pixels .entry)) (pointOf x y) clockwise (now (out .entry))) ⌝ }
+    ensures { λ r. ⌜ record { answer = r; out = (now (out .exit), now (count .exit)) }
+        ≡ walkForC (walked (chartFrom width height) (now (pixels .entry)) (pointFrom x y) clockwise (now (out .entry))) ⌝ }
 {
     let chart = Chart {
         width: width,

@@ -2,11 +2,10 @@
 ghost use Prim.Native.Nat.{_≤_};
 ghost use mathlib.Core.Path.{_≡_};
 ghost use lib.ListN.{length};
-ghost use Rattle.util.specs.Answers.{intersectionValues};
 ghost use Rattle.util.specs.Crossing.{intersectionOf};
 ghost use Rattle.util.specs.Ratios.{outsideOf, insideOf, coincideOf};
-ghost use Rattle.sandline_c.specs.Handed.{laid, crossing};
-ghost use Rattle.sandline_c.specs.Read.{placeAt, crossed};
+ghost use Rattle.sandline_c.specs.Handed.{crossingForC};
+ghost use Rattle.sandline_c.specs.Read.{pointF64At, crossingFrom};
 use point::PointF64;
 use util::Intersection;
 
@@ -20,9 +19,9 @@ pub extern "C" fn sandline_find_intersection(
     values: &mut [f64; 4],
     count: &mut [usize; 1],
 ) -> u8
-    ensures { λ r. ⌜ record { number = r; count = now (count .exit); buffers = now (values .exit) }
-        ≡ crossing (intersectionOf (placeAt (now (first .entry)) 0) (placeAt (now (first .entry)) 1)
-        (placeAt (now (second .entry)) 0) (placeAt (now (second .entry)) 1)) (now (values .entry)) ⌝ }
+    ensures { λ r. ⌜ record { answer = r; out = (now (values .exit), now (count .exit)) }
+        ≡ crossingForC (intersectionOf (pointF64At (now (first .entry)) 0) (pointF64At (now (first .entry)) 1)
+        (pointF64At (now (second .entry)) 0) (pointF64At (now (second .entry)) 1)) (now (values .entry)) ⌝ }
 {
     let p1 = PointF64 {
         x: first[0],
@@ -40,24 +39,26 @@ pub extern "C" fn sandline_find_intersection(
         x: second[2],
         y: second[3],
     };
-    let found = util::find_intersection(p1, p2, p3, p4);
-    *count = [put_crossing(found, values)];
-    found.number()
+    put_crossing(util::find_intersection(p1, p2, p3, p4), values, count)
 }
 
-// The values of a crossing, put at the start of an array; how many they are.
-fn put_crossing(found: Intersection, values: &mut [f64]) -> usize
+// A crossing, its values put at the start of an array and counted.
+fn put_crossing(found: Intersection, values: &mut [f64], count: &mut [usize; 1]) -> u8
     requires { ⌜ 4 ≤ length (now values) ⌝ }
-    ensures { λ r. ⌜ record { count = r; values = now (values .exit) } ≡ laid (intersectionValues found) (now (values .entry)) ⌝ }
+    ensures { λ r. ⌜ record { answer = r; out = (now (values .exit), now (count .exit)) } ≡ crossingForC found (now (values .entry)) ⌝ }
 {
     match found {
-        Intersection::Parallel => 0,
+        Intersection::Parallel => {
+            *count = [0];
+            0
+        }
         Intersection::Coincide(p) => {
             let x = p.x;
             let y = p.y;
             values[0] = x;
             values[1] = y;
-            2
+            *count = [2];
+            0
         }
         Intersection::Cross(p, mua, mub) => {
             let x = p.x;
@@ -66,9 +67,13 @@ fn put_crossing(found: Intersection, values: &mut [f64]) -> usize
             values[1] = y;
             values[2] = mua;
             values[3] = mub;
-            4
+            *count = [4];
+            0
         }
-        Intersection::Refused(_) => 0,
+        Intersection::Refused(refusal) => {
+            *count = [0];
+            refusal.number()
+        }
     }
 }
 
@@ -76,7 +81,7 @@ fn put_crossing(found: Intersection, values: &mut [f64]) -> usize
 // `sandline_find_intersection` put, as many as it counted.
 #[no_mangle]
 pub extern "C" fn sandline_outside(values: &[f64]) -> bool
-    ensures { λ r. ⌜ r ≡ outsideOf (crossed (now (values .entry))) ⌝ }
+    ensures { λ r. ⌜ r ≡ outsideOf (crossingFrom (now (values .entry))) ⌝ }
 {
     read_crossing(values).outside()
 }
@@ -84,7 +89,7 @@ pub extern "C" fn sandline_outside(values: &[f64]) -> bool
 // Whether a crossing lies on both lines: between the two points of each.
 #[no_mangle]
 pub extern "C" fn sandline_inside(values: &[f64]) -> bool
-    ensures { λ r. ⌜ r ≡ insideOf (crossed (now (values .entry))) ⌝ }
+    ensures { λ r. ⌜ r ≡ insideOf (crossingFrom (now (values .entry))) ⌝ }
 {
     read_crossing(values).inside()
 }
@@ -92,14 +97,14 @@ pub extern "C" fn sandline_inside(values: &[f64]) -> bool
 // Whether the lines are one.
 #[no_mangle]
 pub extern "C" fn sandline_coincide(values: &[f64]) -> bool
-    ensures { λ r. ⌜ r ≡ coincideOf (crossed (now (values .entry))) ⌝ }
+    ensures { λ r. ⌜ r ≡ coincideOf (crossingFrom (now (values .entry))) ⌝ }
 {
     read_crossing(values).coincide()
 }
 
 // The crossing that values stand for.
 fn read_crossing(values: &[f64]) -> Intersection
-    ensures { λ r. ⌜ r ≡ crossed (now (values .entry)) ⌝ }
+    ensures { λ r. ⌜ r ≡ crossingFrom (now (values .entry)) ⌝ }
 {
     if values.len() == 4 {
         let p = PointF64 {

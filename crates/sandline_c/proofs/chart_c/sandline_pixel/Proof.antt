@@ -1,6 +1,6 @@
 -- `sandline_pixel` meets its contract: it hands over what the library's call answers. Assumes nothing.
 use borrow.Author.Needs.{needs}
-use Rattle.sandline_c.proofs.Telling.{laws}
+use Rattle.sandline_c.proofs.Handed.{counted}
 use Rattle.sandline_c.proofs.chart_c.sandline_pixel.Statement.{statement}
 use Rattle.sandline_c.proofs.chart_c.sandline_pixel.Tie as tie
 
@@ -9,4 +9,4 @@ sandline-pixel-spec =
     tie.close
     (tie.spec
     (λ c κs. search needs)  -- pixel-requires
-    (λ c. search laws))  -- returns
+    (λ c. search counted))  -- returns

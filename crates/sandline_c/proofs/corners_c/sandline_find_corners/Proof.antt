@@ -1,6 +1,6 @@
 -- `sandline_find_corners` meets its contract: it hands over what the library's call answers. Assumes nothing.
 use borrow.Author.Needs.{needs}
-use Rattle.sandline_c.proofs.Telling.{laws}
+use Rattle.sandline_c.proofs.Handed.{counted}
 use Rattle.sandline_c.proofs.corners_c.sandline_find_corners.Statement.{statement}
 use Rattle.sandline_c.proofs.corners_c.sandline_find_corners.Tie as tie
 
@@ -11,4 +11,4 @@ sandline-find-corners-spec =
     (λ c κs. search needs)  -- find-corners-requires
     (λ c κs. search needs)  -- hand-requires
     (λ c. search needs)  -- same-length
-    (λ c. search laws))  -- returns
+    (λ c. search counted))  -- returns

@@ -1,6 +1,6 @@
 -- `sandline_read_pbm` meets its contract: it hands over what the library's call answers. Assumes nothing.
 use borrow.Author.Needs.{needs}
-use Rattle.sandline_c.proofs.Telling.{laws}
+use Rattle.sandline_c.proofs.Handed.{counted}
 use Rattle.sandline_c.proofs.pbm_c.sandline_read_pbm.Statement.{statement}
 use Rattle.sandline_c.proofs.pbm_c.sandline_read_pbm.Tie as tie
 
@@ -13,6 +13,6 @@ sandline-read-pbm-spec =
     (λ c. search needs)  -- enum-known-refusal
     (λ c κs. search needs)  -- number-requires
     (λ c. search needs)  -- same-length
-    (λ c. search laws)  -- returns
+    (λ c. search counted)  -- returns
     (λ c. search needs)  -- same-length-2
-    (λ c. search laws))  -- returns-2
+    (λ c. search counted))  -- returns-2

@@ -1,6 +1,6 @@
 -- `sandline_reduce` meets its contract: it hands over what the library's call answers. Assumes nothing.
 use borrow.Author.Needs.{needs}
-use Rattle.sandline_c.proofs.Telling.{laws}
+use Rattle.sandline_c.proofs.Handed.{counted}
 use Rattle.sandline_c.proofs.reduce_c.sandline_reduce.Statement.{statement}
 use Rattle.sandline_c.proofs.reduce_c.sandline_reduce.Tie as tie
 
@@ -13,4 +13,4 @@ sandline-reduce-spec =
     (λ c. search needs)  -- same-length
     (λ c. search needs)  -- same-length-2
     (λ c. search needs)  -- same-length-3
-    (λ c. search laws))  -- returns
+    (λ c. search counted))  -- returns

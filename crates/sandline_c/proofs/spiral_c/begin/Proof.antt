@@ -1,6 +1,6 @@
 -- `begin` meets its contract: each case of the answer. Assumes nothing.
 use borrow.Author.Needs.{needs}
-use Rattle.sandline_c.proofs.Values.{values}
+use Rattle.sandline_c.proofs.Handed.{values}
 use Rattle.sandline_c.proofs.spiral_c.begin.Statement.{statement}
 use Rattle.sandline_c.proofs.spiral_c.begin.Tie as tie
 
@@ -12,5 +12,5 @@ begin-spec =
     (λ c. search needs)  -- enum-known-s
     (λ c. search needs)  -- enum-known-refusal
     (λ c κs. search needs)  -- number-requires
-    (λ c. search values)  -- returns
-    (λ c. search values))  -- returns-2
+    (λ c. (search values, search values))  -- returns
+    (λ c. (search values, search values)))  -- returns-2

@@ -1,6 +1,6 @@
 -- `put_step` meets its contract: each case has its number, its count and its values. Assumes nothing.
 use borrow.Author.Needs.{needs}
-use Rattle.sandline_c.proofs.Values.{values}
+use Rattle.sandline_c.proofs.Handed.{values}
 use Rattle.sandline_c.proofs.spiral_c.put_step.Statement.{statement}
 use Rattle.sandline_c.proofs.spiral_c.put_step.Tie as tie
 

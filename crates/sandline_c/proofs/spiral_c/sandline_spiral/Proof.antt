@@ -41,11 +41,13 @@ use denote.Triple.Call.{calls-at}
 use denote.Triple.Clauses.{ensured, lasts}
 use denote.Triple.Table.{entered, cited}
 use denote.Triple.Walked.{says, Stays, stay-none, stay-ref, walkOf, AllGo, goes-none, goes-ref, Walks, ends-at, walked, walk-meets}
+use Rattle.spiral.specs.Answers.{freshNumber}
 use Rattle.spiral.specs.Spiral.{freshSpiral}
 use Rattle.spiral.specs.declared.SpiralWalker.{SpiralWalker}
 use Rattle.spiral.proofs.SpiralWalker as S
 use Rattle.spiral.proofs.SpiralWalker.Laws as S′
-use Rattle.sandline_c.specs.Handed.{begun}
+use Rattle.sandline_c.specs.Handed.{freshOr}
+use Rattle.sandline_c.proofs.Handed.{spiral-told}
 use Rattle.sandline_c.specs.declared.spiral_c.Begun.{Begun}
 use Rattle.sandline_c.proofs.spiral_c.Begun as O
 use Rattle.sandline_c.proofs.spiral_c.Begun.Laws as O′
@@ -60,6 +62,10 @@ use Rattle.sandline_c.proofs.spiral_c.sandline_spiral.Code as code
 
 abbrev stayed : Stays (self.ended .signature .params) (self.ended .kept)
 stayed = (stay-none (λ _. usize) yes, (stay-ref (0 ∷ []) tt (plain (λ _. S.the-row)), tt))
+
+-- what `begin` says
+abbrev Begins : ℕ → SpiralWalker → Begun → Type 0
+Begins n h r = (r .number ≡ freshNumber (freshSpiral n)) × (r .spiral ≡ freshOr (freshSpiral n) h)
 
 -- ---- machine values, and what the parts of an outcome owe
 
@@ -77,8 +83,8 @@ module _ {M : Type 1} (𝓤 : URA M) (H : Heap 𝓤) (A : Atoms 𝓤) (at-mem : 
   abbrev Begin : Contract 𝓤
   Begin = tripleOf 𝓤 H A begin.signature (begin.spec 𝓤 H A at-mem run)
 
-  clause : (n : ℕ) (h : SpiralWalker) (r : Begun) → ent 𝓤 (ensured 𝓤 H A begin.ended (begin.clauses 𝓤 H A at-mem run) tt (n, (h, tt)) tt r) (fact 𝓤 (r ≡ begun (freshSpiral n) h))
-  clause n h r = exE 𝓤 _ (λ ws. snd∗ 𝓤 (sem 𝓤 H A (lasts begin.ended tt (n, (h, tt)) ws)) (fact 𝓤 (r ≡ begun (freshSpiral n) h)))
+  clause : (n : ℕ) (h : SpiralWalker) (r : Begun) → ent 𝓤 (ensured 𝓤 H A begin.ended (begin.clauses 𝓤 H A at-mem run) tt (n, (h, tt)) tt r) (fact 𝓤 (Begins n h r))
+  clause n h r = exE 𝓤 _ (λ ws. snd∗ 𝓤 (sem 𝓤 H A (lasts begin.ended tt (n, (h, tt)) ws)) (fact 𝓤 (Begins n h r)))
 
 module _ {M : Type 1} (𝓤 : URA M) (H : Heap 𝓤) (A : Atoms 𝓤) (W : Given 𝓤 H A) (at-mem : Memory → SProp 𝓤) (run : Routine → Fun 𝓤) (n : ℕ) (κ : Lft) (q : Share) (b o : ℕ) (γ : GName) (h : SpiralWalker) where
   abbrev x : ℕ × (RefT SpiralWalker × Unit {0})
@@ -91,12 +97,12 @@ module _ {M : Type 1} (𝓤 : URA M) (H : Heap 𝓤) (A : Atoms 𝓤) (W : Given
   Post = walkOf 𝓤 H A self.ended stayed (self.clauses 𝓤 H A at-mem run) .post (((κ, tt), (q, tt), tt, x, at), tt)
 
   -- at exit the struct holds r's state, and r's number is returned
-  exits : n < 2 ^ 64 → (r : Begun) → r ≡ begun (freshSpiral n) h → Is u8 (r .number) (vint w8 (r .number) ∷ []) →
+  exits : n < 2 ^ 64 → (r : Begun) → Begins n h r → Is u8 (r .number) (vint w8 (r .number) ∷ []) →
       ent 𝓤 (sep 𝓤 (A .obs γ (S.the-row .coded .code (r .spiral))) (sep 𝓤 (A .bor κ (Body (mem S.the-row) b o γ)) (A .lft κ q))) (Post (vint w8 (r .number)))
   exits fits r e is =
       qed W (‵ (fobs γ (S.the-row .coded .code (r .spiral))) ∷ ‵ (fbor κ (Body (mem S.the-row) b o γ)) ∷ ‵ (flft κ q) ∷ []) ∵
       suffices ! _ (ends-at 𝓤 H A self.ended stayed (self.clauses 𝓤 H A at-mem run) W (((κ, tt), (q, tt), tt, x, at), tt) (vint w8 (r .number)) (r .number) (tt, (r .spiral, tt)) (tt, (tt, tt))) $
-      says ! e $ nothing ! $ move ! (3 ∷ 0 ∷ []) $ join ! $ frame ! $
+      says ! (spiral-told (freshSpiral n) (r .number) (r .spiral) h e) $ nothing ! $ move ! (3 ∷ 0 ∷ []) $ join ! $ frame ! $
       feqI ! (List Val) (vptr b o ∷ []) (vptr b o ∷ []) refl $ fjoin3 ! $ nothing ! $ move ! (1 ∷ 0 ∷ []) $ fjoin ! $
       owned ! usize (Is usize) (uint-makes 𝓤 H A W w64) n _ (refl, fits) $ fjoin ! $
       owned ! u8 (Is u8) (uint-makes 𝓤 H A W w8) (r .number) _ is $ move ! (1 ∷ 0 ∷ []) $ done !
@@ -138,7 +144,7 @@ module _ {M : Type 1} (𝓤 : URA M) (H : Heap 𝓤) (A : Atoms 𝓤) (W : Given
         calls-at ! fm (Begin 𝓤 H A at-mem run) known to-begin (and-then ! (load ! (from ! (stop !)) (look ! 11 refl)) (and-then ! (load ! (from ! (stop !)) (look ! 5 refl)) (no-more !))) (λ v.
         use1 W (later (some (λ (r : Begun). (‵ ftrue ⊛ ‵ (O.the-row .own r (v ∷ []))) ⊛ raw (ensured 𝓤 H A begin.ended (begin.clauses 𝓤 H A at-mem run) tt (n, (h, tt)) tt r)))) (id⊢ 𝓤 _) $
         await ! tt $ pick ! (λ r. split ! $
-        move ! (1 ∷ []) $ use1 W (raw (fact 𝓤 (r ≡ begun (freshSpiral n) h))) (clause 𝓤 H A at-mem run n h r) $ heard ! (r ≡ begun (freshSpiral n) h) (λ e. split ! $ drop ! $
+        move ! (1 ∷ []) $ use1 W (raw (fact 𝓤 (Begins n h r))) (clause 𝓤 H A at-mem run n h r) $ heard ! (Begins n h r) (λ e. split ! $ drop ! $
         facts ! O.the-row (Is O.the-row) (shows 𝓤 H A O.the-row) r (v ∷ []) (λ is.
         land ! (from ! (stop !)) (init ! 6 refl (LL.lawful O.the-type O′.the-laws 𝓤 H A W .typed r _ is .0)) $
         rewrite ! 6 (λ (u : Val). ‵ (fat fullShare O′.mir l₃ 0 u)) (ap only (LL.tells O.the-type O′.the-laws r (v ∷ []) is)) refl $

@@ -46,8 +46,9 @@ use Rattle.spiral.proofs.spiral_advance as advance
 use Rattle.spiral.proofs.spiral_advance.Symbol as advance-def
 use Rattle.spiral.proofs.spiral_advance.Symbol.{name as #advance}
 use Rattle.spiral.proofs.spiral_advance.Met as advance-thm
-use Rattle.sandline_c.specs.Handed.{Counted, stepped}
-use Rattle.sandline_c.proofs.Values.{advance-told}
+use Rattle.laws.specs.Outcome.{Outcome}
+use Rattle.sandline_c.specs.Handed.{stepForC}
+use Rattle.sandline_c.proofs.Handed.{advance-told}
 use Rattle.sandline_c.proofs.spiral_c.put_step as put
 use Rattle.sandline_c.proofs.spiral_c.put_step.Symbol as put-def
 use Rattle.sandline_c.proofs.spiral_c.put_step.Symbol.{name as #put}
@@ -73,8 +74,8 @@ stayed =
 abbrev Advances : SpiralWalker → Advanced → SpiralWalker → Type 0
 Advances h r s = _≡_ {A = AdvancedOutcome} (record { answer = r; spiral = s }) (advanced h)
 
-abbrev Steps : Advanced → List ℤ → ℕ → List ℤ → List ℕ → Type 0
-Steps r old n place count = _≡_ {A = Counted (List ℤ)} (record { number = n; count = count; buffers = place }) (stepped r old)
+abbrev Stepped : Advanced → List ℤ → ℕ → List ℤ → List ℕ → Type 0
+Stepped r old n place count = _≡_ {A = Outcome ℕ (List ℤ × List ℕ)} (record { answer = n; out = (place, count) }) (stepForC r old)
 
 module _ {M : Type 1} (𝓤 : URA M) (H : Heap 𝓤) (A : Atoms 𝓤) (at-mem : Memory → SProp 𝓤) (run : Routine → Fun 𝓤) where
   -- the contracts that the proof cites
@@ -104,7 +105,7 @@ module _ {M : Type 1} (𝓤 : URA M) (H : Heap 𝓤) (A : Atoms 𝓤) (W : Given
   abbrev Post : Val → SProp 𝓤
   Post = walkOf 𝓤 H A self.ended stayed (self.clauses 𝓤 H A at-mem run) .post (((κ, (κ₁, (κ₂, tt))), (q, (q₁, (q₂, tt))), tt, x, at), tt)
 
-  exits : (n : ℕ) (w : Val) (r : Advanced) (s′ : SpiralWalker) (place′ : List ℤ) (count′ : List ℕ) → Advances h r s′ → Steps r old n place′ count′ →
+  exits : (n : ℕ) (w : Val) (r : Advanced) (s′ : SpiralWalker) (place′ : List ℤ) (count′ : List ℕ) → Advances h r s′ → Stepped r old n place′ count′ →
       ent 𝓤 (sep 𝓤 (sem 𝓤 H A (u8 .own n (w ∷ []))) (sep 𝓤 (sep 𝓤 (A .lft κ₁ q₁) (sep 𝓤 (A .lft κ₂ q₂) (sem 𝓤 H A ftrue)))
       (sep 𝓤 (sem 𝓤 H A (fres γ₂ (Count .coded .code count′))) (sep 𝓤 (sem 𝓤 H A (fres γ₁ (Place .coded .code place′)))
       (sep 𝓤 (sep 𝓤 (A .lft κ q) (sem 𝓤 H A ftrue)) (sem 𝓤 H A (fres γ (S.the-row .coded .code s′)))))))) (Post w)
@@ -176,8 +177,8 @@ module _ {M : Type 1} (𝓤 : URA M) (H : Heap 𝓤) (A : Atoms 𝓤) (W : Given
         use1 W (later (some (λ (n : ℕ). ((‵ (flft κ₁ q₁) ⊛ (‵ (flft κ₂ q₂) ⊛ ‵ ftrue)) ⊛ ‵ (u8 .own n (w ∷ []))) ⊛
         raw (ensured 𝓤 H A put.ended (put.clauses 𝓤 H A at-mem run) (κ₁, (κ₂, tt)) (r, (place, (count, tt))) tt n)))) (id⊢ 𝓤 _) $
         await ! tt $ pick ! (λ n. split ! $ move ! (1 ∷ []) $
-        use1 W (some (λ (us : Unit {0} × (List ℤ × (List ℕ × Unit {0}))). ‵ (lasts put.ended (κ₁, (κ₂, tt)) (r, (place, (count, tt))) us) ⊛ raw (fact 𝓤 (Steps r old n (us .1 .0) (us .1 .1 .0))))) (id⊢ 𝓤 _) $ pick ! (λ us.
-        split ! $ move ! (1 ∷ []) $ heard ! (Steps r old n (us .1 .0) (us .1 .1 .0)) (λ f.
+        use1 W (some (λ (us : Unit {0} × (List ℤ × (List ℕ × Unit {0}))). ‵ (lasts put.ended (κ₁, (κ₂, tt)) (r, (place, (count, tt))) us) ⊛ raw (fact 𝓤 (Stepped r old n (us .1 .0) (us .1 .1 .0))))) (id⊢ 𝓤 _) $ pick ! (λ us.
+        split ! $ move ! (1 ∷ []) $ heard ! (Stepped r old n (us .1 .0) (us .1 .1 .0)) (λ f.
         fsplit ! $ move ! (1 ∷ []) $ fsplit ! $ move ! (1 ∷ []) $ fsplit ! $
         -- [the last count; true; the last place; true; tokens 1 and 2 and the number; token 0; the last state; true; _7; …]
         move ! (4 ∷ []) $ split ! $ move ! (1 ∷ []) $ peeks ! u8 (Is u8) (shows 𝓤 H A u8) n (w ∷ []) (λ is′.

@@ -1,6 +1,6 @@
 -- `put_measure` meets its contract: a length fills the array. Assumes nothing.
 use borrow.Author.Needs.{needs}
-use Rattle.sandline_c.proofs.Values.{values}
+use Rattle.sandline_c.proofs.Handed.{values}
 use Rattle.sandline_c.proofs.util_c.put_measure.Statement.{statement}
 use Rattle.sandline_c.proofs.util_c.put_measure.Tie as tie
 

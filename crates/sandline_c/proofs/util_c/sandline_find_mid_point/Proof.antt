@@ -1,6 +1,6 @@
 -- `sandline_find_mid_point` meets its contract: it hands over what the library's call answers. Assumes nothing.
 use borrow.Author.Needs.{needs}
-use Rattle.sandline_c.proofs.Values.{values}
+use Rattle.sandline_c.proofs.Handed.{values}
 use Rattle.sandline_c.proofs.util_c.sandline_find_mid_point.Statement.{statement}
 use Rattle.sandline_c.proofs.util_c.sandline_find_mid_point.Tie as tie
 

@@ -2,7 +2,7 @@
 use native.Mathlib.Omega.{arith}
 use lib.ListN.{length-set}
 use borrow.Author.Needs.{needs}
-use Rattle.sandline_c.proofs.TwoLines.{crossings}
+use Rattle.sandline_c.proofs.Handed.{values}
 use Rattle.sandline_c.proofs.util_c.crossing.put_crossing.Statement.{statement}
 use Rattle.sandline_c.proofs.util_c.crossing.put_crossing.Tie as tie
 
@@ -19,10 +19,11 @@ put-crossing-spec =
     (λ c. simp length-set (omega arith))  -- slice-write-values-4
     (λ c. simp length-set (omega arith))  -- slice-write-values-5
     (λ c. search needs)  -- slice-write-values-6
-    (λ c. search needs)  -- enum-told-2
-    (λ c. search crossings)  -- returns
+    (λ c. search needs)  -- enum-known-found-3
+    (λ c κs. search needs)  -- number-requires
+    (λ c. search values)  -- returns
     (λ c. search needs)  -- same-length
-    (λ c. search crossings)  -- returns-2
+    (λ c. search values)  -- returns-2
     (λ c. search needs)  -- same-length-2
-    (λ c. search crossings)  -- returns-3
-    (λ c. search crossings))  -- returns-4
+    (λ c. search values)  -- returns-3
+    (λ c. search values))  -- returns-4

@@ -1,6 +1,6 @@
 -- `read_crossing` meets its contract: the number of values picks the case. Assumes nothing.
 use borrow.Author.Needs.{needs}
-use Rattle.sandline_c.proofs.TwoLines.{crossings}
+use Rattle.sandline_c.proofs.Read.{read}
 use Rattle.sandline_c.proofs.util_c.crossing.read_crossing.Statement.{statement}
 use Rattle.sandline_c.proofs.util_c.crossing.read_crossing.Tie as tie
 
@@ -12,8 +12,8 @@ read-crossing-spec =
     (λ c. search needs)  -- shared-slice-read-t8
     (λ c. search needs)  -- shared-slice-read-t6-2
     (λ c. search needs)  -- shared-slice-read-t8-2
-    (λ c. search crossings)  -- returns
+    (λ c. search read)  -- returns
     (λ c. search needs)  -- shared-slice-read-t12
     (λ c. search needs)  -- shared-slice-read-t14
-    (λ c. search crossings)  -- returns-2
-    (λ c. search crossings))  -- returns-3
+    (λ c. search read)  -- returns-2
+    (λ c. search read))  -- returns-3

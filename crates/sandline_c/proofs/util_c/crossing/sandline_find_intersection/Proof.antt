@@ -1,6 +1,6 @@
 -- `sandline_find_intersection` meets its contract: it hands over what the library's call answers. Assumes nothing.
 use borrow.Author.Needs.{needs}
-use Rattle.sandline_c.proofs.TwoLines.{crossings}
+use Rattle.sandline_c.proofs.Handed.{values}
 use Rattle.sandline_c.proofs.util_c.crossing.sandline_find_intersection.Statement.{statement}
 use Rattle.sandline_c.proofs.util_c.crossing.sandline_find_intersection.Tie as tie
 
@@ -18,5 +18,4 @@ sandline-find-intersection-spec =
     (λ c. search needs)  -- element-copy-out-t15-4
     (λ c κs. search needs)  -- find-intersection-requires
     (λ c κs. search needs)  -- put-crossing-requires
-    (λ c κs. search needs)  -- number-requires
-    (λ c. search crossings))  -- returns
+    (λ c. search values))  -- returns

@@ -1,6 +1,6 @@
 -- `sandline_inside` meets its contract: it hands over what the library's call answers. Assumes nothing.
 use borrow.Author.Needs.{needs}
-use Rattle.sandline_c.proofs.TwoLines.{crossings}
+use Rattle.sandline_c.proofs.Read.{read}
 use Rattle.sandline_c.proofs.util_c.crossing.sandline_inside.Statement.{statement}
 use Rattle.sandline_c.proofs.util_c.crossing.sandline_inside.Tie as tie
 
@@ -10,4 +10,4 @@ sandline-inside-spec =
     (tie.spec
     (λ c κs. search needs)  -- read-crossing-requires
     (λ c κs. search needs)  -- inside-requires
-    (λ c. search crossings))  -- returns
+    (λ c. search read))  -- returns

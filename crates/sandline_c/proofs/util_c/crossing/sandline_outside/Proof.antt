@@ -1,6 +1,6 @@
 -- `sandline_outside` meets its contract: it hands over what the library's call answers. Assumes nothing.
 use borrow.Author.Needs.{needs}
-use Rattle.sandline_c.proofs.TwoLines.{crossings}
+use Rattle.sandline_c.proofs.Read.{read}
 use Rattle.sandline_c.proofs.util_c.crossing.sandline_outside.Statement.{statement}
 use Rattle.sandline_c.proofs.util_c.crossing.sandline_outside.Tie as tie
 
@@ -10,4 +10,4 @@ sandline-outside-spec =
     (tie.spec
     (λ c κs. search needs)  -- read-crossing-requires
     (λ c κs. search needs)  -- outside-requires
-    (λ c. search crossings))  -- returns
+    (λ c. search read))  -- returns
