@@ -10,9 +10,9 @@ use spiral::Fresh;
 use spiral::SpiralWalker;
 
 // The number that is answered for a size, and what the caller's struct then holds.
-pub struct Begun {
-    pub number: u8,
-    pub spiral: SpiralWalker,
+struct Begun {
+    number: u8,
+    spiral: SpiralWalker,
 }
 
 // The spiral of a square of `size` by `size`, before its first step.
