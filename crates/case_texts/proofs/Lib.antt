@@ -1,3 +1,0 @@
-pub mod Widened
-pub mod Then
-pub mod Claims

@@ -1,3 +1,0 @@
--- What the crate promises: `Spaced` says what is put.
-pub mod Spaced
-pub mod Examples

@@ -1,0 +1,71 @@
+// `read_pbm FILE ROOM`, whose answer is the number of the refusal, the width, the height, the count of bytes that the image
+// took and the whole chart buffer; `write_pbm W H BYTES ROOM`, whose answer is the number, the count of bytes and the whole
+// output. Refused, sizes and counts are 0.
+use crate::limits::BYTE;
+use crate::limits::ROOM;
+use crate::lists::read_bytes;
+use crate::putting::put_answer;
+use crate::putting::put_bytes;
+use crate::putting::put_natural;
+use crate::reading::Sizes;
+use crate::reading::is_call;
+use crate::reading::read_room;
+use crate::reading::read_sizes;
+use pbm::Picture;
+
+// Puts the answer to a case of a picture at a place of `out`, and answers the place behind it.
+pub fn answer(line: &[u8], out: &mut [u8], at: usize) -> usize {
+    if is_call(line, b"read_pbm", 3) {
+        return read(line, out, at);
+    }
+    if is_call(line, b"write_pbm", 5) {
+        return write(line, out, at);
+    }
+    at
+}
+
+fn read(line: &[u8], out: &mut [u8], at: usize) -> usize {
+    let room = read_room(line, 2);
+    let mut file = [0u8; ROOM];
+    let n = read_bytes(lines::word(line, 1), &mut file);
+    if (ROOM < room) | (ROOM < n) {
+        return at;
+    }
+    let mut places = [BYTE; ROOM];
+    let pixels = &mut places[0..room];
+    let picture = pbm::read_pbm(&file[0..n], pixels);
+    let end = put_picture(picture, out, at);
+    put_bytes(pixels, out, end)
+}
+
+fn put_picture(picture: Picture, out: &mut [u8], at: usize) -> usize {
+    let mut width = 0;
+    let mut height = 0;
+    let mut taken = 0;
+    if let Picture::Read { chart, bytes } = picture {
+        width = chart.width;
+        height = chart.height;
+        taken = bytes;
+    }
+    let mut end = put_natural(picture.number() as u64, out, at);
+    end = put_natural(width as u64, out, end);
+    end = put_natural(height as u64, out, end);
+    put_natural(taken as u64, out, end)
+}
+
+fn write(line: &[u8], out: &mut [u8], at: usize) -> usize {
+    let Sizes::Are(chart) = read_sizes(line, 1) else {
+        return at;
+    };
+    let room = read_room(line, 4);
+    let mut bytes = [0u8; ROOM];
+    let n = read_bytes(lines::word(line, 3), &mut bytes);
+    if (ROOM < room) | (ROOM < n) {
+        return at;
+    }
+    let mut places = [BYTE; ROOM];
+    let text = &mut places[0..room];
+    let answer = pbm::write_pbm(chart, &bytes[0..n], text);
+    let end = put_answer(answer, out, at);
+    put_bytes(text, out, end)
+}
