@@ -76,17 +76,29 @@ fn answer_all(input: &mut [u8], output: &mut [u8]) {
 // Puts the answer to a line at a place of `out`, and answers the place behind it. The first word of a line names the call:
 // the subject that has it puts the answer, and every other puts nothing.
 fn answer(line: &[u8], out: &mut [u8], at: usize) -> usize {
+    let mut end = of_numbers(line, out, at);
+    end = of_charts(line, out, end);
+    end = of_outlines(line, out, end);
+    putting::end_line(out, at, end)
+}
+
+fn of_numbers(line: &[u8], out: &mut [u8], at: usize) -> usize {
     let mut end = sqrt_cases::answer(line, out, at);
     end = point_cases::answer(line, out, end);
-    end = chart_cases::answer(line, out, end);
+    util_cases::answer(line, out, end)
+}
+
+fn of_charts(line: &[u8], out: &mut [u8], at: usize) -> usize {
+    let mut end = chart_cases::answer(line, out, at);
     end = walker_cases::answer(line, out, end);
     end = spiral_cases::answer(line, out, end);
-    end = reduce_cases::answer(line, out, end);
+    pbm_cases::answer(line, out, end)
+}
+
+fn of_outlines(line: &[u8], out: &mut [u8], at: usize) -> usize {
+    let mut end = reduce_cases::answer(line, out, at);
     end = simplify_cases::answer(line, out, end);
-    end = util_cases::answer(line, out, end);
-    end = smooth_cases::answer(line, out, end);
-    end = pbm_cases::answer(line, out, end);
-    putting::end_line(out, at, end)
+    smooth_cases::answer(line, out, end)
 }
 
 // How many bytes came, none at the end of the input; or that it cannot be read.

@@ -28,7 +28,10 @@ fn read(line: &[u8], out: &mut [u8], at: usize) -> usize {
     let room = read_room(line, 2);
     let mut file = [0u8; ROOM];
     let n = read_bytes(lines::word(line, 1), &mut file);
-    if (ROOM < room) | (ROOM < n) {
+    if ROOM < room {
+        return at;
+    }
+    if ROOM < n {
         return at;
     }
     let mut places = [BYTE; ROOM];
@@ -60,7 +63,10 @@ fn write(line: &[u8], out: &mut [u8], at: usize) -> usize {
     let room = read_room(line, 4);
     let mut bytes = [0u8; ROOM];
     let n = read_bytes(lines::word(line, 3), &mut bytes);
-    if (ROOM < room) | (ROOM < n) {
+    if ROOM < room {
+        return at;
+    }
+    if ROOM < n {
         return at;
     }
     let mut places = [BYTE; ROOM];

@@ -82,9 +82,11 @@ pub fn end_line(out: &mut [u8], from: usize, to: usize) -> usize {
 
 // Ends what stands between two places: `mark` takes the place of its last byte. Where nothing stands there, `none` does.
 fn end_with(mark: u8, none: &[u8], out: &mut [u8], from: usize, to: usize) -> usize {
-    if (from < to) & (to <= out.len()) {
-        out[to - 1] = mark;
-        return to;
+    if from < to {
+        if to <= out.len() {
+            out[to - 1] = mark;
+            return to;
+        }
     }
     texts::put_bytes(none, out, from)
 }

@@ -45,7 +45,10 @@ fn corners(line: &[u8], closed: bool, out: &mut [u8], at: usize) -> usize {
     let room = read_room(line, 5);
     let mut list = [0i32; VALUES];
     let n = read_integers(lines::word(line, 4), b',', &mut list);
-    if (ROOM < room) | (VALUES < n) {
+    if ROOM < room {
+        return at;
+    }
+    if VALUES < n {
         return at;
     }
     let mut places = [BYTE; ROOM];
@@ -70,7 +73,10 @@ fn subdivide(line: &[u8], closed: bool, out: &mut [u8], at: usize) -> usize {
     let mut corners = [0u8; ROOM];
     let n = read_doubles(lines::word(line, 4), b',', &mut points);
     let m = read_bytes(lines::word(line, 5), &mut corners);
-    if (VALUES < n) | (ROOM < m) {
+    if VALUES < n {
+        return at;
+    }
+    if ROOM < m {
         return at;
     }
     round(
@@ -84,7 +90,7 @@ fn subdivide(line: &[u8], closed: bool, out: &mut [u8], at: usize) -> usize {
     )
 }
 
-// Reads the rooms that a round is given, lends them, and makes it.
+// Reads the rooms that a round is given, and lends them.
 fn round(
     line: &[u8],
     settings: Settings,
@@ -96,13 +102,36 @@ fn round(
 ) -> usize {
     let room = read_room(line, 6);
     let flag_room = read_room(line, 7);
-    if (ROOM < room) | (ROOM < flag_room) {
+    if ROOM < room {
         return at;
     }
-    let mut places = [DOUBLE; ROOM];
-    let mut flag_places = [BYTE; ROOM];
-    let values = &mut places[0..room];
-    let flags = &mut flag_places[0..flag_room];
+    if ROOM < flag_room {
+        return at;
+    }
+    let mut values = [DOUBLE; ROOM];
+    let mut flags = [BYTE; ROOM];
+    smoothed(
+        settings,
+        closed,
+        points,
+        corners,
+        &mut values[0..room],
+        &mut flags[0..flag_room],
+        out,
+        at,
+    )
+}
+
+fn smoothed(
+    settings: Settings,
+    closed: bool,
+    points: &[f64],
+    corners: &[u8],
+    values: &mut [f64],
+    flags: &mut [u8],
+    out: &mut [u8],
+    at: usize,
+) -> usize {
     let answer = smooth::subdivide_keep_corners(points, corners, settings, closed, values, flags);
     let mut end = put_count(answer.number(), answer.count(), out, at);
     end = put_choice(answer.finished(), out, end);

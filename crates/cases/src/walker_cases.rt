@@ -28,18 +28,43 @@ pub fn answer(line: &[u8], out: &mut [u8], at: usize) -> usize {
     walk(line, chart, PointI32 { x: x, y: y }, out, at)
 }
 
-// Reads the rest of a walk, whose chart and start are read, and makes it.
+// Reads the rest of a walk, whose chart and start are read, and lends what it asks for.
 fn walk(line: &[u8], chart: Chart, start: PointI32, out: &mut [u8], at: usize) -> usize {
     let clockwise = read_choice(line, 1);
+    if 1 < clockwise {
+        return at;
+    }
     let room = read_room(line, 7);
+    if ROOM < room {
+        return at;
+    }
     let mut bytes = [0u8; ROOM];
     let n = read_bytes(lines::word(line, 4), &mut bytes);
-    if (1 < clockwise) | (ROOM < room) | (ROOM < n) {
+    if ROOM < n {
         return at;
     }
     let mut places = [INTEGER; ROOM];
-    let values = &mut places[0..room];
-    let answer = walker::walk(chart, &bytes[0..n], start, clockwise == 1, values);
+    walked(
+        chart,
+        &bytes[0..n],
+        start,
+        clockwise == 1,
+        &mut places[0..room],
+        out,
+        at,
+    )
+}
+
+fn walked(
+    chart: Chart,
+    pixels: &[u8],
+    start: PointI32,
+    clockwise: bool,
+    values: &mut [i32],
+    out: &mut [u8],
+    at: usize,
+) -> usize {
+    let answer = walker::walk(chart, pixels, start, clockwise, values);
     let end = put_count(answer.number(), answer.count(), out, at);
     put_integers(values, out, end)
 }

@@ -34,13 +34,32 @@ pub fn douglas_peucker(
 ) -> usize {
     let room = read_room(line, 3);
     let mark_room = read_room(line, 4);
-    if (ROOM < room) | (ROOM < mark_room) {
+    if ROOM < room {
         return at;
     }
-    let mut places = [INTEGER; ROOM];
-    let mut mark_places = [BYTE; ROOM];
-    let values = &mut places[0..room];
-    let marks = &mut mark_places[0..mark_room];
+    if ROOM < mark_room {
+        return at;
+    }
+    let mut values = [INTEGER; ROOM];
+    let mut marks = [BYTE; ROOM];
+    kept(
+        points,
+        tolerance,
+        &mut values[0..room],
+        &mut marks[0..mark_room],
+        out,
+        at,
+    )
+}
+
+fn kept(
+    points: &[i32],
+    tolerance: f64,
+    values: &mut [i32],
+    marks: &mut [u8],
+    out: &mut [u8],
+    at: usize,
+) -> usize {
     let answer = reduce::simplify_douglas_peucker(points, tolerance, values, marks);
     let mut end = put_answer(answer, out, at);
     end = put_integers(values, out, end);
@@ -51,15 +70,38 @@ pub fn reduce(line: &[u8], tolerance: f64, points: &[i32], out: &mut [u8], at: u
     let room = read_room(line, 3);
     let scratch_room = read_room(line, 4);
     let mark_room = read_room(line, 5);
-    if (ROOM < room) | (ROOM < scratch_room) | (ROOM < mark_room) {
+    if ROOM < room {
         return at;
     }
-    let mut places = [INTEGER; ROOM];
-    let mut scratch_places = [INTEGER; ROOM];
-    let mut mark_places = [BYTE; ROOM];
-    let values = &mut places[0..room];
-    let scratch = &mut scratch_places[0..scratch_room];
-    let marks = &mut mark_places[0..mark_room];
+    if ROOM < scratch_room {
+        return at;
+    }
+    if ROOM < mark_room {
+        return at;
+    }
+    let mut values = [INTEGER; ROOM];
+    let mut scratch = [INTEGER; ROOM];
+    let mut marks = [BYTE; ROOM];
+    reduced(
+        points,
+        tolerance,
+        &mut values[0..room],
+        &mut scratch[0..scratch_room],
+        &mut marks[0..mark_room],
+        out,
+        at,
+    )
+}
+
+fn reduced(
+    points: &[i32],
+    tolerance: f64,
+    values: &mut [i32],
+    scratch: &mut [i32],
+    marks: &mut [u8],
+    out: &mut [u8],
+    at: usize,
+) -> usize {
     let answer = reduce::reduce(points, tolerance, values, scratch, marks);
     let mut end = put_answer(answer, out, at);
     end = put_integers(values, out, end);
@@ -71,7 +113,10 @@ pub fn zoom(line: &[u8], tolerance: f64, points: &[i32], out: &mut [u8], at: usi
     let room = read_room(line, 4);
     let mut numbers = [0.0f64; VALUES];
     let n = read_doubles(lines::word(line, 3), b',', &mut numbers);
-    if (ROOM < room) | (VALUES < n) {
+    if ROOM < room {
+        return at;
+    }
+    if VALUES < n {
         return at;
     }
     let mut places = [INTEGER; ROOM];
@@ -85,7 +130,10 @@ pub fn numbers(line: &[u8], out: &mut [u8], at: usize) -> usize {
     let room = read_room(line, 2);
     let mut list = [0i32; VALUES];
     let n = read_integers(lines::word(line, 1), b',', &mut list);
-    if (ROOM < room) | (VALUES < n) {
+    if ROOM < room {
+        return at;
+    }
+    if VALUES < n {
         return at;
     }
     let mut places = [DOUBLE; ROOM];
