@@ -47,7 +47,7 @@ pub fn answer(line: &[u8], out: &mut [u8], at: usize) -> usize {
         return at;
     };
     let mut bytes = [0u8; ROOM];
-    let n = read_bytes(lines::word(line, 3), &mut bytes);
+    let n = read_bytes(line, 3, &mut bytes);
     if ROOM < n {
         return at;
     }

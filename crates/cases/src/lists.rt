@@ -1,5 +1,5 @@
-// Several values in one text, read to the start of a lent buffer. Each call answers how many there are, and `NONE`, which
-// is more than any buffer holds, where one of them is no value or there is no room for all.
+// Several values in the word at place `k` of a line, read to the start of a lent buffer. Each call answers how many there
+// are, and `NONE`, which is more than any buffer holds, where one of them is no value or there is no room for all.
 ghost use Prim.Native.Nat.{_+_, _≤_};
 ghost use lib.ListN.{length};
 use decimals::Integer;
@@ -8,15 +8,16 @@ use pairs::Read;
 
 const NONE: usize = usize::MAX;
 
-// The integers of a text, with a `sep` between each two.
-pub fn read_integers(text: &[u8], sep: u8, to: &mut [i32]) -> usize {
+// Integers, a comma between each two; `-` for none.
+pub fn read_integers(line: &[u8], k: usize, to: &mut [i32]) -> usize {
+    let text = lines::word(line, k);
     if pairs::is_dash(text) {
         return 0;
     }
     let mut n = 0usize;
     let mut at = 0usize;
     while at <= text.len() {
-        let value = value_at(text, sep, at);
+        let value = value_at(text, at);
         let Integer::Is(integer) = decimals::read_integer(value) else {
             return NONE;
         };
@@ -30,15 +31,16 @@ pub fn read_integers(text: &[u8], sep: u8, to: &mut [i32]) -> usize {
     n
 }
 
-// The doubles of a text, each the 16 hexadecimal digits of its pattern, with a `sep` between each two.
-pub fn read_doubles(text: &[u8], sep: u8, to: &mut [f64]) -> usize {
+// Doubles, each the 16 hexadecimal digits of its pattern, a comma between each two; `-` for none.
+pub fn read_doubles(line: &[u8], k: usize, to: &mut [f64]) -> usize {
+    let text = lines::word(line, k);
     if pairs::is_dash(text) {
         return 0;
     }
     let mut n = 0usize;
     let mut at = 0usize;
     while at <= text.len() {
-        let value = value_at(text, sep, at);
+        let value = value_at(text, at);
         let Hex::Is(pattern) = digits::read_pattern(value) else {
             return NONE;
         };
@@ -53,17 +55,17 @@ pub fn read_doubles(text: &[u8], sep: u8, to: &mut [f64]) -> usize {
 }
 
 // The value that begins at a place of a text.
-fn value_at<'a>(text: &'a [u8], sep: u8, at: usize) -> &'a [u8]
+fn value_at<'a>(text: &'a [u8], at: usize) -> &'a [u8]
     requires { ⌜ at ≤ length (now text) ⌝ }
     ensures { λ r. ⌜ at + length (now r) ≤ length (now (text .entry)) ⌝ }
 {
-    let end = lines::find(text, sep, at);
+    let end = lines::find(text, b',', at);
     &text[at..end]
 }
 
-// The bytes of a text, each as two hexadecimal digits.
-pub fn read_bytes(text: &[u8], to: &mut [u8]) -> usize {
-    let Read::Is(n) = pairs::read_pairs(text, to) else {
+// Bytes, each as two hexadecimal digits; `-` for none.
+pub fn read_bytes(line: &[u8], k: usize, to: &mut [u8]) -> usize {
+    let Read::Is(n) = pairs::read_pairs(lines::word(line, k), to) else {
         return NONE;
     };
     n

@@ -3,6 +3,7 @@
 // output. Refused, sizes and counts are 0.
 use crate::limits::BYTE;
 use crate::limits::ROOM;
+use crate::limits::greater;
 use crate::lists::read_bytes;
 use crate::putting::put_answer;
 use crate::putting::put_bytes;
@@ -27,11 +28,8 @@ pub fn answer(line: &[u8], out: &mut [u8], at: usize) -> usize {
 fn read(line: &[u8], out: &mut [u8], at: usize) -> usize {
     let room = read_room(line, 2);
     let mut file = [0u8; ROOM];
-    let n = read_bytes(lines::word(line, 1), &mut file);
-    if ROOM < room {
-        return at;
-    }
-    if ROOM < n {
+    let n = read_bytes(line, 1, &mut file);
+    if ROOM < greater(room, n) {
         return at;
     }
     let mut places = [BYTE; ROOM];
@@ -62,11 +60,8 @@ fn write(line: &[u8], out: &mut [u8], at: usize) -> usize {
     };
     let room = read_room(line, 4);
     let mut bytes = [0u8; ROOM];
-    let n = read_bytes(lines::word(line, 3), &mut bytes);
-    if ROOM < room {
-        return at;
-    }
-    if ROOM < n {
+    let n = read_bytes(line, 3, &mut bytes);
+    if ROOM < greater(room, n) {
         return at;
     }
     let mut places = [BYTE; ROOM];

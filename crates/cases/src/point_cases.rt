@@ -24,10 +24,10 @@ const BAD: u8 = u8::MAX;
 // The number that a case is answered.
 fn judge(line: &[u8]) -> u8 {
     if is_call(line, b"points", 2) {
-        return points(lines::word(line, 1));
+        return points(line);
     }
     if is_call(line, b"points_f64", 2) {
-        return points_f64(lines::word(line, 1));
+        return points_f64(line);
     }
     let Double::Is(tolerance) = read_double(line, 1) else {
         return BAD;
@@ -41,18 +41,18 @@ fn judge(line: &[u8]) -> u8 {
     BAD
 }
 
-fn points(word: &[u8]) -> u8 {
+fn points(line: &[u8]) -> u8 {
     let mut list = [0i32; VALUES];
-    let n = read_integers(word, b',', &mut list);
+    let n = read_integers(line, 1, &mut list);
     if VALUES < n {
         return BAD;
     }
     listed(n, point::bad_points(&list[0..n]))
 }
 
-fn points_f64(word: &[u8]) -> u8 {
+fn points_f64(line: &[u8]) -> u8 {
     let mut list = [0.0f64; VALUES];
-    let n = read_doubles(word, b',', &mut list);
+    let n = read_doubles(line, 1, &mut list);
     if VALUES < n {
         return BAD;
     }

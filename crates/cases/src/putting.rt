@@ -25,7 +25,7 @@ pub fn put_integer(n: i32, out: &mut [u8], at: usize) -> usize {
 }
 
 pub fn put_double(x: f64, out: &mut [u8], at: usize) -> usize {
-    put_marked_double(x, b' ', out, at)
+    put_pattern(bits::to_bits(x), b' ', out, at)
 }
 
 // A number and a count.
@@ -37,6 +37,12 @@ pub fn put_count(number: u8, count: usize, out: &mut [u8], at: usize) -> usize {
 // The number of an answer, and its count.
 pub fn put_answer(answer: Answer, out: &mut [u8], at: usize) -> usize {
     put_count(answer.number(), answer.count(), out, at)
+}
+
+// The 16 hexadecimal digits of a pattern, and the mark behind them.
+pub fn put_pattern(p: u64, mark: u8, out: &mut [u8], at: usize) -> usize {
+    let end = texts::put_hex(p, 16, out, at);
+    texts::put_byte(mark, out, end)
 }
 
 // Integers, a comma between each two.
@@ -55,7 +61,7 @@ pub fn put_doubles(values: &[f64], out: &mut [u8], at: usize) -> usize {
     let mut end = at;
     let mut i = 0;
     while i < values.len() {
-        end = put_marked_double(values[i], b',', out, end);
+        end = put_pattern(bits::to_bits(values[i]), b',', out, end);
         i += 1;
     }
     end_with(b' ', b"- ", out, at, end)
@@ -94,12 +100,6 @@ fn end_with(mark: u8, none: &[u8], out: &mut [u8], from: usize, to: usize) -> us
 // An integer, and the mark behind it.
 fn put_marked_integer(n: i32, mark: u8, out: &mut [u8], at: usize) -> usize {
     let end = texts::put_decimal(n as i64, out, at);
-    texts::put_byte(mark, out, end)
-}
-
-// The 16 hexadecimal digits of a double's pattern, and the mark behind them.
-fn put_marked_double(x: f64, mark: u8, out: &mut [u8], at: usize) -> usize {
-    let end = texts::put_hex(bits::to_bits(x), 16, out, at);
     texts::put_byte(mark, out, end)
 }
 

@@ -4,6 +4,7 @@ use chart::Chart;
 use decimals::Integer;
 use decimals::Natural;
 use digits::Hex;
+use point::PointF64;
 
 pub enum Double {
     Is(f64),
@@ -22,21 +23,24 @@ pub enum Two {
     Not,
 }
 
+// Two points, one behind the other.
+pub enum Ends {
+    Are(PointF64, PointF64),
+    Not,
+}
+
+// A point of two doubles, one behind the other.
+pub enum Place {
+    At(PointF64),
+    Not,
+}
+
 // Whether a line has the form of a call: its name, and so many words with it.
 pub fn is_call(line: &[u8], name: &[u8], words: usize) -> bool {
     if check::same(lines::word(line, 0), name) {
         return lines::words(line) == words;
     }
     false
-}
-
-// What stands behind the call and its space; nothing, where there is no space.
-pub fn behind_call<'a>(line: &'a [u8]) -> &'a [u8] {
-    let end = lines::word(line, 0).len();
-    if line.len() <= end {
-        return &line[0..0];
-    }
-    &line[end + 1..]
 }
 
 pub fn read_natural(line: &[u8], k: usize) -> Natural {
@@ -69,6 +73,32 @@ pub fn read_double(line: &[u8], k: usize) -> Double {
         return Double::Not;
     };
     Double::Is(bits::from_bits(p))
+}
+
+// The point whose doubles stand from place `k` on.
+pub fn read_place(line: &[u8], k: usize) -> Place
+    requires { ⌜ k ≤ 8 ⌝ }
+{
+    let Double::Is(x) = read_double(line, k) else {
+        return Place::Not;
+    };
+    let Double::Is(y) = read_double(line, k + 1) else {
+        return Place::Not;
+    };
+    Place::At(PointF64 { x: x, y: y })
+}
+
+// The two points whose doubles stand from place `k` on.
+pub fn read_ends(line: &[u8], k: usize) -> Ends
+    requires { ⌜ k ≤ 5 ⌝ }
+{
+    let Place::At(p) = read_place(line, k) else {
+        return Ends::Not;
+    };
+    let Place::At(q) = read_place(line, k + 2) else {
+        return Ends::Not;
+    };
+    Ends::Are(p, q)
 }
 
 // The chart whose width stands at place `k`, and its height behind it.

@@ -52,7 +52,7 @@ pub fn answer(line: &[u8], out: &mut [u8], at: usize) -> usize {
         return at;
     };
     let mut list = [0i32; VALUES];
-    let n = read_integers(lines::word(line, 2), b',', &mut list);
+    let n = read_integers(line, 2, &mut list);
     if VALUES < n {
         return at;
     }

@@ -42,7 +42,7 @@ fn given(call: Call, line: &[u8], word: usize, out: &mut [u8], at: usize) -> usi
 {
     let room = read_room(line, word + 1);
     let mut points = [0i32; VALUES];
-    let n = read_integers(lines::word(line, word), b',', &mut points);
+    let n = read_integers(line, word, &mut points);
     if ROOM < room {
         return at;
     }

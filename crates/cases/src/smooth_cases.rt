@@ -5,6 +5,7 @@ use crate::limits::BYTE;
 use crate::limits::DOUBLE;
 use crate::limits::ROOM;
 use crate::limits::VALUES;
+use crate::limits::greater;
 use crate::lists::read_bytes;
 use crate::lists::read_doubles;
 use crate::lists::read_integers;
@@ -44,7 +45,7 @@ fn corners(line: &[u8], closed: bool, out: &mut [u8], at: usize) -> usize {
     };
     let room = read_room(line, 5);
     let mut list = [0i32; VALUES];
-    let n = read_integers(lines::word(line, 4), b',', &mut list);
+    let n = read_integers(line, 4, &mut list);
     if ROOM < room {
         return at;
     }
@@ -71,8 +72,8 @@ fn subdivide(line: &[u8], closed: bool, out: &mut [u8], at: usize) -> usize {
     };
     let mut points = [0.0f64; VALUES];
     let mut corners = [0u8; ROOM];
-    let n = read_doubles(lines::word(line, 4), b',', &mut points);
-    let m = read_bytes(lines::word(line, 5), &mut corners);
+    let n = read_doubles(line, 4, &mut points);
+    let m = read_bytes(line, 5, &mut corners);
     if VALUES < n {
         return at;
     }
@@ -102,10 +103,7 @@ fn round(
 ) -> usize {
     let room = read_room(line, 6);
     let flag_room = read_room(line, 7);
-    if ROOM < room {
-        return at;
-    }
-    if ROOM < flag_room {
+    if ROOM < greater(room, flag_room) {
         return at;
     }
     let mut values = [DOUBLE; ROOM];

@@ -1,6 +1,7 @@
 // `sqrt_bits P`, the pattern of the root of the double whose pattern is P, and `sqrt P`, the same by way of f64, where a
 // NaN is written `nan`.
 use crate::putting::put_double;
+use crate::putting::put_pattern;
 use crate::putting::put_word;
 use crate::reading::is_call;
 use crate::reading::read_pattern;
@@ -12,8 +13,7 @@ pub fn answer(line: &[u8], out: &mut [u8], at: usize) -> usize {
         return at;
     };
     if is_call(line, b"sqrt_bits", 2) {
-        let end = texts::put_hex(sqrt::sqrt_bits(p), 16, out, at);
-        return texts::put_byte(b' ', out, end);
+        return put_pattern(sqrt::sqrt_bits(p), b' ', out, at);
     }
     if is_call(line, b"sqrt", 2) {
         return put_root(sqrt::sqrt(sqrt::from_bits(p)), out, at);

@@ -3,43 +3,20 @@
 // worked out.
 mod answers;
 
-use crate::lists::read_doubles;
-use crate::lists::read_integers;
-use crate::reading::behind_call;
+use crate::reading::Ends;
+use crate::reading::Place;
+use crate::reading::Two;
 use crate::reading::is_call;
+use crate::reading::read_ends;
+use crate::reading::read_place;
+use crate::reading::read_two;
 use crate::util_cases::answers::put_area;
 use crate::util_cases::answers::put_crossing;
 use crate::util_cases::answers::put_length;
 use crate::util_cases::answers::put_middle;
 use crate::util_cases::answers::put_says;
-use point::PointF64;
 use point::PointI32;
 use util::Intersection;
-
-enum Call {
-    Norm,
-    MidPoint,
-    Intersection,
-    Ratios,
-    Other,
-}
-
-// The call of a line that has doubles.
-fn call_of(line: &[u8]) -> Call {
-    if is_call(line, b"norm", 3) {
-        return Call::Norm;
-    }
-    if is_call(line, b"mid_point", 5) {
-        return Call::MidPoint;
-    }
-    if is_call(line, b"intersection", 9) {
-        return Call::Intersection;
-    }
-    if is_call(line, b"ratios", 3) {
-        return Call::Ratios;
-    }
-    Call::Other
-}
 
 // Puts the answer to a case of points and lines at a place of `out`, and answers the place behind it.
 pub fn answer(line: &[u8], out: &mut [u8], at: usize) -> usize {
@@ -49,46 +26,65 @@ pub fn answer(line: &[u8], out: &mut [u8], at: usize) -> usize {
 
 // The calls on whole numbers.
 fn of_integers(line: &[u8], out: &mut [u8], at: usize) -> usize {
-    let area = is_call(line, b"signed_area", 7);
-    if !(area | is_call(line, b"norm_i32", 3)) {
+    let Two::Are(x, y) = read_two(line, 1) else {
         return at;
+    };
+    let p = PointI32 { x: x, y: y };
+    if is_call(line, b"norm_i32", 3) {
+        return put_length(util::norm_i32(p), out, at);
     }
-    let mut v = [0i32; 6];
-    if 6 < read_integers(behind_call(line), b' ', &mut v) {
+    if is_call(line, b"signed_area", 7) {
+        return signed_area(line, p, out, at);
+    }
+    at
+}
+
+// The area of the point that is read and of the two behind it.
+fn signed_area(line: &[u8], p1: PointI32, out: &mut [u8], at: usize) -> usize {
+    let Two::Are(x2, y2) = read_two(line, 3) else {
         return at;
-    }
-    let p1 = PointI32 { x: v[0], y: v[1] };
-    let p2 = PointI32 { x: v[2], y: v[3] };
-    let p3 = PointI32 { x: v[4], y: v[5] };
-    if area {
-        return put_area(util::signed_area(p1, p2, p3), out, at);
-    }
-    put_length(util::norm_i32(p1), out, at)
+    };
+    let Two::Are(x3, y3) = read_two(line, 5) else {
+        return at;
+    };
+    let p2 = PointI32 { x: x2, y: y2 };
+    let p3 = PointI32 { x: x3, y: y3 };
+    put_area(util::signed_area(p1, p2, p3), out, at)
 }
 
 // The calls on doubles.
 fn of_doubles(line: &[u8], out: &mut [u8], at: usize) -> usize {
-    let call = call_of(line);
-    if let Call::Other = call {
+    let Place::At(p) = read_place(line, 1) else {
         return at;
+    };
+    if is_call(line, b"norm", 3) {
+        return put_length(util::norm(p), out, at);
     }
-    let mut v = [0.0f64; 8];
-    if 8 < read_doubles(behind_call(line), b' ', &mut v) {
-        return at;
+    if is_call(line, b"ratios", 3) {
+        return put_says(Intersection::Cross(p, p.x, p.y), out, at);
     }
-    made(call, &v, out, at)
+    if is_call(line, b"mid_point", 5) {
+        return mid_point(line, out, at);
+    }
+    if is_call(line, b"intersection", 9) {
+        return intersection(line, out, at);
+    }
+    at
 }
 
-fn made(call: Call, v: &[f64; 8], out: &mut [u8], at: usize) -> usize {
-    let p1 = PointF64 { x: v[0], y: v[1] };
-    let p2 = PointF64 { x: v[2], y: v[3] };
-    let p3 = PointF64 { x: v[4], y: v[5] };
-    let p4 = PointF64 { x: v[6], y: v[7] };
-    match call {
-        Call::Norm => put_length(util::norm(p1), out, at),
-        Call::MidPoint => put_middle(util::find_mid_point(p1, p2), out, at),
-        Call::Intersection => put_crossing(util::find_intersection(p1, p2, p3, p4), out, at),
-        Call::Ratios => put_says(Intersection::Cross(p2, v[0], v[1]), out, at),
-        Call::Other => at,
-    }
+fn mid_point(line: &[u8], out: &mut [u8], at: usize) -> usize {
+    let Ends::Are(p1, p2) = read_ends(line, 1) else {
+        return at;
+    };
+    put_middle(util::find_mid_point(p1, p2), out, at)
+}
+
+fn intersection(line: &[u8], out: &mut [u8], at: usize) -> usize {
+    let Ends::Are(p1, p2) = read_ends(line, 1) else {
+        return at;
+    };
+    let Ends::Are(p3, p4) = read_ends(line, 5) else {
+        return at;
+    };
+    put_crossing(util::find_intersection(p1, p2, p3, p4), out, at)
 }

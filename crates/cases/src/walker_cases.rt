@@ -1,6 +1,7 @@
 // `walk CLOCKWISE W H BYTES X Y ROOM`, whose answer is the number of the refusal, the count of points and the whole buffer.
 use crate::limits::INTEGER;
 use crate::limits::ROOM;
+use crate::limits::greater;
 use crate::lists::read_bytes;
 use crate::putting::put_count;
 use crate::putting::put_integers;
@@ -35,12 +36,9 @@ fn walk(line: &[u8], chart: Chart, start: PointI32, out: &mut [u8], at: usize) -
         return at;
     }
     let room = read_room(line, 7);
-    if ROOM < room {
-        return at;
-    }
     let mut bytes = [0u8; ROOM];
-    let n = read_bytes(lines::word(line, 4), &mut bytes);
-    if ROOM < n {
+    let n = read_bytes(line, 4, &mut bytes);
+    if ROOM < greater(room, n) {
         return at;
     }
     let mut places = [INTEGER; ROOM];

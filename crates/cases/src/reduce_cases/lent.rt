@@ -5,6 +5,7 @@ use crate::limits::DOUBLE;
 use crate::limits::INTEGER;
 use crate::limits::ROOM;
 use crate::limits::VALUES;
+use crate::limits::greater;
 use crate::lists::read_doubles;
 use crate::lists::read_integers;
 use crate::putting::put_answer;
@@ -34,10 +35,7 @@ pub fn douglas_peucker(
 ) -> usize {
     let room = read_room(line, 3);
     let mark_room = read_room(line, 4);
-    if ROOM < room {
-        return at;
-    }
-    if ROOM < mark_room {
+    if ROOM < greater(room, mark_room) {
         return at;
     }
     let mut values = [INTEGER; ROOM];
@@ -70,13 +68,7 @@ pub fn reduce(line: &[u8], tolerance: f64, points: &[i32], out: &mut [u8], at: u
     let room = read_room(line, 3);
     let scratch_room = read_room(line, 4);
     let mark_room = read_room(line, 5);
-    if ROOM < room {
-        return at;
-    }
-    if ROOM < scratch_room {
-        return at;
-    }
-    if ROOM < mark_room {
+    if ROOM < greater(room, greater(scratch_room, mark_room)) {
         return at;
     }
     let mut values = [INTEGER; ROOM];
@@ -112,7 +104,7 @@ fn reduced(
 pub fn zoom(line: &[u8], tolerance: f64, points: &[i32], out: &mut [u8], at: usize) -> usize {
     let room = read_room(line, 4);
     let mut numbers = [0.0f64; VALUES];
-    let n = read_doubles(lines::word(line, 3), b',', &mut numbers);
+    let n = read_doubles(line, 3, &mut numbers);
     if ROOM < room {
         return at;
     }
@@ -129,7 +121,7 @@ pub fn zoom(line: &[u8], tolerance: f64, points: &[i32], out: &mut [u8], at: usi
 pub fn numbers(line: &[u8], out: &mut [u8], at: usize) -> usize {
     let room = read_room(line, 2);
     let mut list = [0i32; VALUES];
-    let n = read_integers(lines::word(line, 1), b',', &mut list);
+    let n = read_integers(line, 1, &mut list);
     if ROOM < room {
         return at;
     }

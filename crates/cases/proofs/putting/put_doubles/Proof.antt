@@ -19,9 +19,10 @@ put-doubles-spec =
     Inv-loop
     μ-loop
     (λ c. search needs)  -- loop-holds
-    (λ c. search needs)  -- mul-put-marked-double
-    (λ c. search needs)  -- shared-slice-read-put-marked-double
-    (λ c κs. search needs)  -- put-marked-double-requires
+    (λ c. search needs)  -- mul-to-bits
+    (λ c. search needs)  -- shared-slice-read-to-bits
+    (λ c κs. search needs)  -- to-bits-requires
+    (λ c κs. search needs)  -- put-pattern-requires
     (λ c. search needs)  -- add-i
     (λ c. search needs)  -- loop-less
     (λ c. search needs)  -- loop-again
