@@ -4,8 +4,8 @@ use crate::limits::ROOM;
 use crate::lists::read_bytes;
 use crate::putting::put_choice;
 use crate::putting::put_count;
-use crate::putting::put_integer;
 use crate::putting::put_natural;
+use crate::putting::put_point;
 use crate::reading::Sizes;
 use crate::reading::Two;
 use crate::reading::is_call;
@@ -71,7 +71,6 @@ fn put_start(start: Start, out: &mut [u8], at: usize) -> usize {
         Start::At(p) => p,
         Start::Refused(_) => PointI32 { x: 0, y: 0 },
     };
-    let mut end = put_natural(start.number() as u64, out, at);
-    end = put_integer(p.x, out, end);
-    put_integer(p.y, out, end)
+    let end = put_natural(start.number() as u64, out, at);
+    put_point(p, out, end)
 }

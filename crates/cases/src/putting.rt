@@ -3,6 +3,7 @@
 //
 // Each call answers the place behind what it put; nothing fails, and what does not fit is not written.
 use point::Answer;
+use point::PointI32;
 
 // A word as it stands.
 pub fn put_word(word: &[u8], out: &mut [u8], at: usize) -> usize {
@@ -22,6 +23,12 @@ pub fn put_choice(set: bool, out: &mut [u8], at: usize) -> usize {
 
 pub fn put_integer(n: i32, out: &mut [u8], at: usize) -> usize {
     put_marked_integer(n, b' ', out, at)
+}
+
+// The two coordinates of a point.
+pub fn put_point(p: PointI32, out: &mut [u8], at: usize) -> usize {
+    let end = put_integer(p.x, out, at);
+    put_integer(p.y, out, end)
 }
 
 pub fn put_double(x: f64, out: &mut [u8], at: usize) -> usize {

@@ -2,6 +2,7 @@
 // number, the point or `none`, and the state after it. A state is the nine fields of a spiral, in their order.
 use crate::putting::put_integer;
 use crate::putting::put_natural;
+use crate::putting::put_point;
 use crate::putting::put_word;
 use crate::reading::is_call;
 use crate::reading::read_integer;
@@ -80,18 +81,25 @@ fn read_fields(line: &[u8], fields: &mut [i32; 7]) -> bool {
 
 // What a step from the state `s` answers, and the state after it.
 fn put_turn(turn: Turn, s: SpiralWalker, out: &mut [u8], at: usize) -> usize {
-    let end = put_natural(turn.number() as u64, out, at);
+    let mut end = put_natural(turn.number() as u64, out, at);
+    end = put_reached(turn, out, end);
+    put_state(after(turn, s), out, end)
+}
+
+fn put_reached(turn: Turn, out: &mut [u8], at: usize) -> usize {
     match turn {
-        Turn::At(p, next) => {
-            let behind_x = put_integer(p.x, out, end);
-            let behind = put_integer(p.y, out, behind_x);
-            put_state(next, out, behind)
-        }
-        Turn::End => {
-            let behind = put_word(b"none", out, end);
-            put_state(s, out, behind)
-        }
-        Turn::Refused(_) => put_state(s, out, end),
+        Turn::At(p, _) => put_point(p, out, at),
+        Turn::End => put_word(b"none", out, at),
+        Turn::Refused(_) => at,
+    }
+}
+
+// The state that a step from the state `s` leads to.
+fn after(turn: Turn, s: SpiralWalker) -> SpiralWalker {
+    match turn {
+        Turn::At(_, next) => next,
+        Turn::End => s,
+        Turn::Refused(_) => s,
     }
 }
 

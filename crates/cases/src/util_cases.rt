@@ -20,8 +20,9 @@ use util::Intersection;
 
 // Puts the answer to a case of points and lines at a place of `out`, and answers the place behind it.
 pub fn answer(line: &[u8], out: &mut [u8], at: usize) -> usize {
-    let end = of_integers(line, out, at);
-    of_doubles(line, out, end)
+    let mut end = of_integers(line, out, at);
+    end = of_doubles(line, out, end);
+    of_lines(line, out, end)
 }
 
 // The calls on whole numbers.
@@ -52,7 +53,7 @@ fn signed_area(line: &[u8], p1: PointI32, out: &mut [u8], at: usize) -> usize {
     put_area(util::signed_area(p1, p2, p3), out, at)
 }
 
-// The calls on doubles.
+// The calls on two doubles.
 fn of_doubles(line: &[u8], out: &mut [u8], at: usize) -> usize {
     let Place::At(p) = read_place(line, 1) else {
         return at;
@@ -63,28 +64,21 @@ fn of_doubles(line: &[u8], out: &mut [u8], at: usize) -> usize {
     if is_call(line, b"ratios", 3) {
         return put_says(Intersection::Cross(p, p.x, p.y), out, at);
     }
-    if is_call(line, b"mid_point", 5) {
-        return mid_point(line, out, at);
-    }
-    if is_call(line, b"intersection", 9) {
-        return intersection(line, out, at);
-    }
     at
 }
 
-fn mid_point(line: &[u8], out: &mut [u8], at: usize) -> usize {
+// The calls on two points or more.
+fn of_lines(line: &[u8], out: &mut [u8], at: usize) -> usize {
     let Ends::Are(p1, p2) = read_ends(line, 1) else {
         return at;
     };
-    put_middle(util::find_mid_point(p1, p2), out, at)
-}
-
-fn intersection(line: &[u8], out: &mut [u8], at: usize) -> usize {
-    let Ends::Are(p1, p2) = read_ends(line, 1) else {
-        return at;
-    };
-    let Ends::Are(p3, p4) = read_ends(line, 5) else {
-        return at;
-    };
-    put_crossing(util::find_intersection(p1, p2, p3, p4), out, at)
+    if is_call(line, b"mid_point", 5) {
+        return put_middle(util::find_mid_point(p1, p2), out, at);
+    }
+    if is_call(line, b"intersection", 9) {
+        if let Ends::Are(p3, p4) = read_ends(line, 5) {
+            return put_crossing(util::find_intersection(p1, p2, p3, p4), out, at);
+        }
+    }
+    at
 }

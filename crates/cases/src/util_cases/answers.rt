@@ -37,24 +37,28 @@ pub fn put_middle(answer: MidPoint, out: &mut [u8], at: usize) -> usize {
 // A crossing: its number, what it carries, and what it says of itself; refused, its number alone.
 pub fn put_crossing(answer: Intersection, out: &mut [u8], at: usize) -> usize {
     let end = put_natural(answer.number() as u64, out, at);
-    match answer {
-        Intersection::Parallel => {
-            let next = put_word(b"parallel", out, end);
-            put_says(answer, out, next)
-        }
-        Intersection::Coincide(p) => {
-            let next = put_word(b"coincide", out, end);
-            let behind = put_pair(p, out, next);
-            put_says(answer, out, behind)
-        }
-        Intersection::Cross(p, mua, mub) => {
-            let next = put_word(b"cross", out, end);
-            let behind = put_pair(p, out, next);
-            let ratios = put_pair(PointF64 { x: mua, y: mub }, out, behind);
-            put_says(answer, out, ratios)
-        }
-        Intersection::Refused(_) => end,
+    if let Intersection::Refused(_) = answer {
+        return end;
     }
+    let behind = put_carried(answer, out, end);
+    put_says(answer, out, behind)
+}
+
+fn put_carried(answer: Intersection, out: &mut [u8], at: usize) -> usize {
+    match answer {
+        Intersection::Parallel => put_word(b"parallel", out, at),
+        Intersection::Coincide(p) => put_named(b"coincide", p, out, at),
+        Intersection::Cross(p, mua, mub) => {
+            let end = put_named(b"cross", p, out, at);
+            put_pair(PointF64 { x: mua, y: mub }, out, end)
+        }
+        Intersection::Refused(_) => at,
+    }
+}
+
+fn put_named(word: &[u8], p: PointF64, out: &mut [u8], at: usize) -> usize {
+    let end = put_word(word, out, at);
+    put_pair(p, out, end)
 }
 
 // Whether a crossing lies outside, inside, and whether the lines are one.
