@@ -1,69 +1,50 @@
 // `pixel W H BYTES X Y`, whose answer is 0 or 1; `area W H BYTES`, whose answer is the number of the refusal and the area;
 // `first_start W H BYTES`, whose answer is the number and the point. Refused, the area and the point are 0.
+use crate::forms::is_case;
 use crate::limits::ROOM;
-use crate::lists::read_bytes;
+use crate::lists::bytes_at;
 use crate::putting::put_choice;
 use crate::putting::put_count;
 use crate::putting::put_natural;
 use crate::putting::put_point;
-use crate::reading::Sizes;
-use crate::reading::Two;
-use crate::reading::is_call;
-use crate::reading::read_sizes;
-use crate::reading::read_two;
-use chart::Chart;
+use crate::reading::chart_at;
+use crate::reading::integer_at;
 use chart::Start;
 use point::PointI32;
 
-enum Call {
-    Area,
-    Start,
-    Pixel(i32, i32),
-    Other,
-}
-
-fn call_of(line: &[u8]) -> Call {
-    if is_call(line, b"area", 4) {
-        return Call::Area;
-    }
-    if is_call(line, b"first_start", 4) {
-        return Call::Start;
-    }
-    if is_call(line, b"pixel", 6) {
-        if let Two::Are(x, y) = read_two(line, 4) {
-            return Call::Pixel(x, y);
-        }
-    }
-    Call::Other
-}
-
 // Puts the answer to a case of a chart at a place of `out`, and answers the place behind it.
 pub fn answer(line: &[u8], out: &mut [u8], at: usize) -> usize {
-    let call = call_of(line);
-    if let Call::Other = call {
-        return at;
+    if is_case(line, b"pixel", b"nnBii") {
+        return pixel(line, out, at);
     }
-    let Sizes::Are(chart) = read_sizes(line, 1) else {
-        return at;
-    };
-    let mut bytes = [0u8; ROOM];
-    let n = read_bytes(line, 3, &mut bytes);
-    if ROOM < n {
-        return at;
+    if is_case(line, b"area", b"nnB") {
+        return area(line, out, at);
     }
-    made(call, chart, &bytes[0..n], out, at)
+    if is_case(line, b"first_start", b"nnB") {
+        return first_start(line, out, at);
+    }
+    at
 }
 
-fn made(call: Call, chart: Chart, pixels: &[u8], out: &mut [u8], at: usize) -> usize {
-    match call {
-        Call::Area => {
-            let cells = chart::area(chart, pixels);
-            put_count(cells.number(), cells.count(), out, at)
-        }
-        Call::Start => put_start(chart::first_start(chart, pixels), out, at),
-        Call::Pixel(x, y) => put_choice(chart::pixel(chart, pixels, x, y), out, at),
-        Call::Other => at,
-    }
+fn pixel(line: &[u8], out: &mut [u8], at: usize) -> usize {
+    let mut bytes = [0u8; ROOM];
+    let n = bytes_at(line, 3, &mut bytes);
+    let x = integer_at(line, 4);
+    let y = integer_at(line, 5);
+    put_choice(chart::pixel(chart_at(line, 1), &bytes[0..n], x, y), out, at)
+}
+
+fn area(line: &[u8], out: &mut [u8], at: usize) -> usize {
+    let mut bytes = [0u8; ROOM];
+    let n = bytes_at(line, 3, &mut bytes);
+    let cells = chart::area(chart_at(line, 1), &bytes[0..n]);
+    put_count(cells.number(), cells.count(), out, at)
+}
+
+fn first_start(line: &[u8], out: &mut [u8], at: usize) -> usize {
+    let mut bytes = [0u8; ROOM];
+    let n = bytes_at(line, 3, &mut bytes);
+    put_start(chart::first_start(chart_at(line, 1), &bytes[0..n]), out, at)
 }
 
 fn put_start(start: Start, out: &mut [u8], at: usize) -> usize {

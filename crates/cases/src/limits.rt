@@ -1,7 +1,5 @@
 // The limits of a case, and what a lent buffer holds before the call (oracle/README.md, under The text form).
 
-ghost use Prim.Native.Nat.{_≤_};
-
 // The most values of a list.
 pub const VALUES: usize = 16384;
 
@@ -14,10 +12,3 @@ pub const INTEGER: i32 = -99999;
 pub const DOUBLE: f64 = -99999.0;
 
 pub const BYTE: u8 = 238;
-
-// The greater of two counts: both are within a limit if it is.
-pub fn greater(a: usize, b: usize) -> usize
-    ensures { λ r. ⌜ (a ≤ r) × (b ≤ r) ⌝ }
-{
-    if a < b { b } else { a }
-}

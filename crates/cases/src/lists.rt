@@ -1,28 +1,25 @@
-// Several values in the word at place `k` of a line, read to the start of a lent buffer. Each call answers how many there
-// are, and `NONE`, which is more than any buffer holds, where one of them is no value or there is no room for all.
+// The values of the list at place `k` of a line, read to the start of a lent buffer, as far as they are values and there is
+// room. Each call answers how many were read. The form of the list is judged before (`forms`).
 ghost use Prim.Native.Nat.{_+_, _≤_};
 ghost use lib.ListN.{length};
 use decimals::Integer;
 use digits::Hex;
 use pairs::Read;
 
-const NONE: usize = usize::MAX;
-
-// Integers, a comma between each two; `-` for none.
-pub fn read_integers(line: &[u8], k: usize, to: &mut [i32]) -> usize {
+// Integers, a comma between each two.
+pub fn integers_at(line: &[u8], k: usize, to: &mut [i32]) -> usize
+    ensures { λ r. ⌜ r ≤ length (now (to .entry)) ⌝ }
+{
     let text = lines::word(line, k);
-    if pairs::is_dash(text) {
-        return 0;
-    }
     let mut n = 0usize;
     let mut at = 0usize;
     while at <= text.len() {
         let value = value_at(text, at);
         let Integer::Is(integer) = decimals::read_integer(value) else {
-            return NONE;
+            return n;
         };
         if to.len() <= n {
-            return NONE;
+            return n;
         }
         to[n] = integer;
         n += 1;
@@ -31,21 +28,20 @@ pub fn read_integers(line: &[u8], k: usize, to: &mut [i32]) -> usize {
     n
 }
 
-// Doubles, each the 16 hexadecimal digits of its pattern, a comma between each two; `-` for none.
-pub fn read_doubles(line: &[u8], k: usize, to: &mut [f64]) -> usize {
+// Doubles, each the 16 hexadecimal digits of its pattern, a comma between each two.
+pub fn doubles_at(line: &[u8], k: usize, to: &mut [f64]) -> usize
+    ensures { λ r. ⌜ r ≤ length (now (to .entry)) ⌝ }
+{
     let text = lines::word(line, k);
-    if pairs::is_dash(text) {
-        return 0;
-    }
     let mut n = 0usize;
     let mut at = 0usize;
     while at <= text.len() {
         let value = value_at(text, at);
         let Hex::Is(pattern) = digits::read_pattern(value) else {
-            return NONE;
+            return n;
         };
         if to.len() <= n {
-            return NONE;
+            return n;
         }
         to[n] = bits::from_bits(pattern);
         n += 1;
@@ -54,8 +50,8 @@ pub fn read_doubles(line: &[u8], k: usize, to: &mut [f64]) -> usize {
     n
 }
 
-// The value that begins at a place of a text.
-fn value_at<'a>(text: &'a [u8], at: usize) -> &'a [u8]
+// The value that begins at a place of a list.
+pub fn value_at<'a>(text: &'a [u8], at: usize) -> &'a [u8]
     requires { ⌜ at ≤ length (now text) ⌝ }
     ensures { λ r. ⌜ at + length (now r) ≤ length (now (text .entry)) ⌝ }
 {
@@ -63,10 +59,12 @@ fn value_at<'a>(text: &'a [u8], at: usize) -> &'a [u8]
     &text[at..end]
 }
 
-// Bytes, each as two hexadecimal digits; `-` for none.
-pub fn read_bytes(line: &[u8], k: usize, to: &mut [u8]) -> usize {
+// Bytes, each as two hexadecimal digits.
+pub fn bytes_at(line: &[u8], k: usize, to: &mut [u8]) -> usize
+    ensures { λ r. ⌜ r ≤ length (now (to .entry)) ⌝ }
+{
     let Read::Is(n) = pairs::read_pairs(lines::word(line, k), to) else {
-        return NONE;
+        return 0;
     };
     n
 }

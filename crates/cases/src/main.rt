@@ -3,6 +3,7 @@
 //
 // Nothing is promised of the answers but that they come: the program is safe and ends.
 mod chart_cases;
+mod forms;
 mod limits;
 mod lists;
 mod pbm_cases;

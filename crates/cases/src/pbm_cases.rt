@@ -1,38 +1,33 @@
 // `read_pbm FILE ROOM`, whose answer is the number of the refusal, the width, the height, the count of bytes that the image
 // took and the whole chart buffer; `write_pbm W H BYTES ROOM`, whose answer is the number, the count of bytes and the whole
 // output. Refused, sizes and counts are 0.
+use crate::forms::is_case;
 use crate::limits::BYTE;
 use crate::limits::ROOM;
-use crate::limits::greater;
-use crate::lists::read_bytes;
-use crate::putting::put_answer;
+use crate::lists::bytes_at;
 use crate::putting::put_bytes;
+use crate::putting::put_flagged;
 use crate::putting::put_natural;
-use crate::reading::Sizes;
-use crate::reading::is_call;
-use crate::reading::read_room;
-use crate::reading::read_sizes;
+use crate::reading::chart_at;
+use crate::reading::room_at;
 use pbm::Picture;
 
 // Puts the answer to a case of a picture at a place of `out`, and answers the place behind it.
 pub fn answer(line: &[u8], out: &mut [u8], at: usize) -> usize {
-    if is_call(line, b"read_pbm", 3) {
+    if is_case(line, b"read_pbm", b"Br") {
         return read(line, out, at);
     }
-    if is_call(line, b"write_pbm", 5) {
+    if is_case(line, b"write_pbm", b"nnBr") {
         return write(line, out, at);
     }
     at
 }
 
 fn read(line: &[u8], out: &mut [u8], at: usize) -> usize {
-    let room = read_room(line, 2);
     let mut file = [0u8; ROOM];
-    let n = read_bytes(line, 1, &mut file);
-    if ROOM < greater(room, n) {
-        return at;
-    }
+    let n = bytes_at(line, 1, &mut file);
     let mut places = [BYTE; ROOM];
+    let room = room_at(line, 2);
     let pixels = &mut places[0..room];
     let picture = pbm::read_pbm(&file[0..n], pixels);
     let end = put_picture(picture, out, at);
@@ -55,18 +50,11 @@ fn put_picture(picture: Picture, out: &mut [u8], at: usize) -> usize {
 }
 
 fn write(line: &[u8], out: &mut [u8], at: usize) -> usize {
-    let Sizes::Are(chart) = read_sizes(line, 1) else {
-        return at;
-    };
-    let room = read_room(line, 4);
     let mut bytes = [0u8; ROOM];
-    let n = read_bytes(line, 3, &mut bytes);
-    if ROOM < greater(room, n) {
-        return at;
-    }
+    let n = bytes_at(line, 3, &mut bytes);
     let mut places = [BYTE; ROOM];
+    let room = room_at(line, 4);
     let text = &mut places[0..room];
-    let answer = pbm::write_pbm(chart, &bytes[0..n], text);
-    let end = put_answer(answer, out, at);
-    put_bytes(text, out, end)
+    let answer = pbm::write_pbm(chart_at(line, 1), &bytes[0..n], text);
+    put_flagged(answer, text, out, at)
 }

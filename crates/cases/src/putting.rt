@@ -88,6 +88,23 @@ pub fn put_bytes(values: &[u8], out: &mut [u8], at: usize) -> usize {
     texts::put_byte(b' ', out, end)
 }
 
+// A number, a count, and integers that were lent.
+pub fn put_points(number: u8, count: usize, values: &[i32], out: &mut [u8], at: usize) -> usize {
+    let end = put_count(number, count, out, at);
+    put_integers(values, out, end)
+}
+
+// An answer, and integers that were lent.
+pub fn put_kept(answer: Answer, values: &[i32], out: &mut [u8], at: usize) -> usize {
+    put_points(answer.number(), answer.count(), values, out, at)
+}
+
+// An answer, and bytes that were lent.
+pub fn put_flagged(answer: Answer, values: &[u8], out: &mut [u8], at: usize) -> usize {
+    let end = put_answer(answer, out, at);
+    put_bytes(values, out, end)
+}
+
 // Ends the line whose values stand between two places. Where none stands there, the line is `bad line`.
 pub fn end_line(out: &mut [u8], from: usize, to: usize) -> usize {
     end_with(b'\n', b"bad line\n", out, from, to)

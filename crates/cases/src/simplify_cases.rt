@@ -1,15 +1,14 @@
 // `remove_staircase CLOCKWISE LIST ROOM`, `limit_penalties LIST ROOM` and `simplify CLOCKWISE LIST ROOM`. The answer is
 // the number of the refusal, or 0, the count of points, and all that the lent buffer then holds.
 ghost use Prim.Native.Nat.{_≤_};
+use crate::forms::is_case;
 use crate::limits::INTEGER;
 use crate::limits::ROOM;
 use crate::limits::VALUES;
-use crate::lists::read_integers;
-use crate::putting::put_answer;
-use crate::putting::put_integers;
-use crate::reading::is_call;
-use crate::reading::read_choice;
-use crate::reading::read_room;
+use crate::lists::integers_at;
+use crate::putting::put_kept;
+use crate::reading::choice_at;
+use crate::reading::room_at;
 use point::Answer;
 
 enum Call {
@@ -20,40 +19,29 @@ enum Call {
 
 // Puts the answer to a case of a simplification at a place of `out`, and answers the place behind it.
 pub fn answer(line: &[u8], out: &mut [u8], at: usize) -> usize {
-    if is_call(line, b"limit_penalties", 3) {
+    if is_case(line, b"remove_staircase", b"cIr") {
+        return given(Call::Staircase(choice_at(line, 1)), line, 2, out, at);
+    }
+    if is_case(line, b"limit_penalties", b"Ir") {
         return given(Call::Penalties, line, 1, out, at);
     }
-    let clockwise = read_choice(line, 1);
-    if 1 < clockwise {
-        return at;
-    }
-    if is_call(line, b"remove_staircase", 4) {
-        return given(Call::Staircase(clockwise == 1), line, 2, out, at);
-    }
-    if is_call(line, b"simplify", 4) {
-        return given(Call::Both(clockwise == 1), line, 2, out, at);
+    if is_case(line, b"simplify", b"cIr") {
+        return given(Call::Both(choice_at(line, 1)), line, 2, out, at);
     }
     at
 }
 
-// The answer of a call to the list that a word says and the room that the next one does.
-fn given(call: Call, line: &[u8], word: usize, out: &mut [u8], at: usize) -> usize
-    requires { ⌜ word ≤ 2 ⌝ }
+// The answer of a call to the list at a place of the line and the room behind it.
+fn given(call: Call, line: &[u8], k: usize, out: &mut [u8], at: usize) -> usize
+    requires { ⌜ k ≤ 2 ⌝ }
 {
-    let room = read_room(line, word + 1);
-    let mut points = [0i32; VALUES];
-    let n = read_integers(line, word, &mut points);
-    if ROOM < room {
-        return at;
-    }
-    if VALUES < n {
-        return at;
-    }
+    let mut list = [0i32; VALUES];
+    let n = integers_at(line, k, &mut list);
     let mut places = [INTEGER; ROOM];
-    let kept = &mut places[0..room];
-    let answer = made(call, &points[0..n], kept);
-    let end = put_answer(answer, out, at);
-    put_integers(kept, out, end)
+    let room = room_at(line, k + 1);
+    let values = &mut places[0..room];
+    let answer = made(call, &list[0..n], values);
+    put_kept(answer, values, out, at)
 }
 
 fn made(call: Call, points: &[i32], out: &mut [i32]) -> Answer {

@@ -1,84 +1,126 @@
 // `signed_area X1 Y1 X2 Y2 X3 Y3` and `norm_i32 X Y` of whole numbers, `norm`, `mid_point` and `intersection` of doubles,
 // two for each point, and `ratios` of the two of a crossing. The answer is the number of the refusal, or 0 and what was
 // worked out.
-mod answers;
-
-use crate::reading::Ends;
-use crate::reading::Place;
-use crate::reading::Two;
-use crate::reading::is_call;
-use crate::reading::read_ends;
-use crate::reading::read_place;
-use crate::reading::read_two;
-use crate::util_cases::answers::put_area;
-use crate::util_cases::answers::put_crossing;
-use crate::util_cases::answers::put_length;
-use crate::util_cases::answers::put_middle;
-use crate::util_cases::answers::put_says;
-use point::PointI32;
+use crate::forms::is_case;
+use crate::putting::put_choice;
+use crate::putting::put_double;
+use crate::putting::put_integer;
+use crate::putting::put_natural;
+use crate::putting::put_word;
+use crate::reading::place_at;
+use crate::reading::point_at;
+use point::PointF64;
 use util::Intersection;
+use util::Measure;
+use util::MidPoint;
+use util::Signed;
 
 // Puts the answer to a case of points and lines at a place of `out`, and answers the place behind it.
 pub fn answer(line: &[u8], out: &mut [u8], at: usize) -> usize {
-    let mut end = of_integers(line, out, at);
-    end = of_doubles(line, out, end);
-    of_lines(line, out, end)
+    let end = of_lengths(line, out, at);
+    of_points(line, out, end)
 }
 
-// The calls on whole numbers.
-fn of_integers(line: &[u8], out: &mut [u8], at: usize) -> usize {
-    let Two::Are(x, y) = read_two(line, 1) else {
-        return at;
-    };
-    let p = PointI32 { x: x, y: y };
-    if is_call(line, b"norm_i32", 3) {
-        return put_length(util::norm_i32(p), out, at);
+fn of_lengths(line: &[u8], out: &mut [u8], at: usize) -> usize {
+    if is_case(line, b"norm_i32", b"ii") {
+        return put_length(util::norm_i32(point_at(line, 1)), out, at);
     }
-    if is_call(line, b"signed_area", 7) {
-        return signed_area(line, p, out, at);
+    if is_case(line, b"norm", b"dd") {
+        return put_length(util::norm(place_at(line, 1)), out, at);
     }
-    at
-}
-
-// The area of the point that is read and of the two behind it.
-fn signed_area(line: &[u8], p1: PointI32, out: &mut [u8], at: usize) -> usize {
-    let Two::Are(x2, y2) = read_two(line, 3) else {
-        return at;
-    };
-    let Two::Are(x3, y3) = read_two(line, 5) else {
-        return at;
-    };
-    let p2 = PointI32 { x: x2, y: y2 };
-    let p3 = PointI32 { x: x3, y: y3 };
-    put_area(util::signed_area(p1, p2, p3), out, at)
-}
-
-// The calls on two doubles.
-fn of_doubles(line: &[u8], out: &mut [u8], at: usize) -> usize {
-    let Place::At(p) = read_place(line, 1) else {
-        return at;
-    };
-    if is_call(line, b"norm", 3) {
-        return put_length(util::norm(p), out, at);
-    }
-    if is_call(line, b"ratios", 3) {
+    if is_case(line, b"ratios", b"dd") {
+        let p = place_at(line, 1);
         return put_says(Intersection::Cross(p, p.x, p.y), out, at);
     }
     at
 }
 
-// The calls on two points or more.
-fn of_lines(line: &[u8], out: &mut [u8], at: usize) -> usize {
-    let Ends::Are(p1, p2) = read_ends(line, 1) else {
-        return at;
-    };
-    if is_call(line, b"mid_point", 5) {
-        return put_middle(util::find_mid_point(p1, p2), out, at);
+fn of_points(line: &[u8], out: &mut [u8], at: usize) -> usize {
+    if is_case(line, b"signed_area", b"iiiiii") {
+        return put_area(signed_area(line), out, at);
     }
-    if is_call(line, b"intersection", 9) {
-        if let Ends::Are(p3, p4) = read_ends(line, 5) {
-            return put_crossing(util::find_intersection(p1, p2, p3, p4), out, at);
-        }
+    if is_case(line, b"mid_point", b"dddd") {
+        let answer = util::find_mid_point(place_at(line, 1), place_at(line, 3));
+        return put_middle(answer, out, at);
+    }
+    if is_case(line, b"intersection", b"dddddddd") {
+        return put_crossing(intersection(line), out, at);
     }
     at
+}
+
+fn signed_area(line: &[u8]) -> Signed {
+    util::signed_area(point_at(line, 1), point_at(line, 3), point_at(line, 5))
+}
+
+fn intersection(line: &[u8]) -> Intersection {
+    util::find_intersection(
+        place_at(line, 1),
+        place_at(line, 3),
+        place_at(line, 5),
+        place_at(line, 7),
+    )
+}
+
+fn put_area(answer: Signed, out: &mut [u8], at: usize) -> usize {
+    let end = put_natural(answer.number() as u64, out, at);
+    let Signed::Area(area) = answer else {
+        return end;
+    };
+    put_integer(area, out, end)
+}
+
+fn put_length(answer: Measure, out: &mut [u8], at: usize) -> usize {
+    let end = put_natural(answer.number() as u64, out, at);
+    let Measure::Is(length) = answer else {
+        return end;
+    };
+    put_double(length, out, end)
+}
+
+fn put_middle(answer: MidPoint, out: &mut [u8], at: usize) -> usize {
+    let end = put_natural(answer.number() as u64, out, at);
+    let MidPoint::At(p) = answer else {
+        return end;
+    };
+    put_pair(p, out, end)
+}
+
+// A crossing: its number, what it carries, and what it says of itself; refused, its number alone.
+fn put_crossing(answer: Intersection, out: &mut [u8], at: usize) -> usize {
+    let end = put_natural(answer.number() as u64, out, at);
+    if let Intersection::Refused(_) = answer {
+        return end;
+    }
+    let behind = put_carried(answer, out, end);
+    put_says(answer, out, behind)
+}
+
+fn put_carried(answer: Intersection, out: &mut [u8], at: usize) -> usize {
+    match answer {
+        Intersection::Parallel => put_word(b"parallel", out, at),
+        Intersection::Coincide(p) => put_named(b"coincide", p, out, at),
+        Intersection::Cross(p, mua, mub) => {
+            let end = put_named(b"cross", p, out, at);
+            put_pair(PointF64 { x: mua, y: mub }, out, end)
+        }
+        Intersection::Refused(_) => at,
+    }
+}
+
+fn put_named(word: &[u8], p: PointF64, out: &mut [u8], at: usize) -> usize {
+    let end = put_word(word, out, at);
+    put_pair(p, out, end)
+}
+
+// Whether a crossing lies outside, inside, and whether the lines are one.
+fn put_says(answer: Intersection, out: &mut [u8], at: usize) -> usize {
+    let mut end = put_choice(answer.outside(), out, at);
+    end = put_choice(answer.inside(), out, end);
+    put_choice(answer.coincide(), out, end)
+}
+
+fn put_pair(p: PointF64, out: &mut [u8], at: usize) -> usize {
+    let end = put_double(p.x, out, at);
+    put_double(p.y, out, end)
 }

@@ -1,68 +1,34 @@
 // `walk CLOCKWISE W H BYTES X Y ROOM`, whose answer is the number of the refusal, the count of points and the whole buffer.
+use crate::forms::is_case;
 use crate::limits::INTEGER;
 use crate::limits::ROOM;
-use crate::limits::greater;
-use crate::lists::read_bytes;
-use crate::putting::put_count;
-use crate::putting::put_integers;
-use crate::reading::Sizes;
-use crate::reading::Two;
-use crate::reading::is_call;
-use crate::reading::read_choice;
-use crate::reading::read_room;
-use crate::reading::read_sizes;
-use crate::reading::read_two;
-use chart::Chart;
-use point::PointI32;
+use crate::lists::bytes_at;
+use crate::putting::put_points;
+use crate::reading::chart_at;
+use crate::reading::choice_at;
+use crate::reading::point_at;
+use crate::reading::room_at;
 
 // Puts the answer to a case of a walk at a place of `out`, and answers the place behind it.
 pub fn answer(line: &[u8], out: &mut [u8], at: usize) -> usize {
-    if !is_call(line, b"walk", 8) {
-        return at;
+    if is_case(line, b"walk", b"cnnBiir") {
+        return walk(line, out, at);
     }
-    let Sizes::Are(chart) = read_sizes(line, 2) else {
-        return at;
-    };
-    let Two::Are(x, y) = read_two(line, 5) else {
-        return at;
-    };
-    walk(line, chart, PointI32 { x: x, y: y }, out, at)
+    at
 }
 
-// Reads the rest of a walk, whose chart and start are read, and lends what it asks for.
-fn walk(line: &[u8], chart: Chart, start: PointI32, out: &mut [u8], at: usize) -> usize {
-    let clockwise = read_choice(line, 1);
-    if 1 < clockwise {
-        return at;
-    }
-    let room = read_room(line, 7);
+fn walk(line: &[u8], out: &mut [u8], at: usize) -> usize {
     let mut bytes = [0u8; ROOM];
-    let n = read_bytes(line, 4, &mut bytes);
-    if ROOM < greater(room, n) {
-        return at;
-    }
+    let n = bytes_at(line, 4, &mut bytes);
     let mut places = [INTEGER; ROOM];
-    walked(
-        chart,
+    let room = room_at(line, 7);
+    let values = &mut places[0..room];
+    let answer = walker::walk(
+        chart_at(line, 2),
         &bytes[0..n],
-        start,
-        clockwise == 1,
-        &mut places[0..room],
-        out,
-        at,
-    )
-}
-
-fn walked(
-    chart: Chart,
-    pixels: &[u8],
-    start: PointI32,
-    clockwise: bool,
-    values: &mut [i32],
-    out: &mut [u8],
-    at: usize,
-) -> usize {
-    let answer = walker::walk(chart, pixels, start, clockwise, values);
-    let end = put_count(answer.number(), answer.count(), out, at);
-    put_integers(values, out, end)
+        point_at(line, 5),
+        choice_at(line, 1),
+        values,
+    );
+    put_points(answer.number(), answer.count(), values, out, at)
 }
