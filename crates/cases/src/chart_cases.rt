@@ -1,6 +1,6 @@
 // `pixel W H BYTES X Y`, whose answer is 0 or 1; `area W H BYTES`, whose answer is the number of the refusal and the area;
 // `first_start W H BYTES`, whose answer is the number and the point. Refused, the area and the point are 0.
-use crate::forms::is_case;
+use crate::forms::case_of;
 use crate::limits::ROOM;
 use crate::lists::bytes_at;
 use crate::putting::put_choice;
@@ -14,16 +14,12 @@ use point::PointI32;
 
 // Puts the answer to a case of a chart at a place of `out`, and answers the place behind it.
 pub fn answer(line: &[u8], out: &mut [u8], at: usize) -> usize {
-    if is_case(line, b"pixel", b"nnBii") {
-        return pixel(line, out, at);
+    match case_of(line, b"pixel nnBii area nnB first_start nnB") {
+        0 => pixel(line, out, at),
+        1 => area(line, out, at),
+        2 => first_start(line, out, at),
+        _ => at,
     }
-    if is_case(line, b"area", b"nnB") {
-        return area(line, out, at);
-    }
-    if is_case(line, b"first_start", b"nnB") {
-        return first_start(line, out, at);
-    }
-    at
 }
 
 fn pixel(line: &[u8], out: &mut [u8], at: usize) -> usize {

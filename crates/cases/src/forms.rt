@@ -1,4 +1,4 @@
-// The form of a case: the name of its call, and a letter for each word behind it.
+// The forms of cases: for each call its name and, behind a space, a letter for each word that follows it.
 //
 //   c  0 or 1
 //   n  a number from zero on that 64 bits hold
@@ -16,11 +16,25 @@ use decimals::Natural;
 use digits::Hex;
 use pairs::Read;
 
-// Whether a line is a case of this form.
-pub fn is_case(line: &[u8], name: &[u8], letters: &[u8]) -> bool {
-    if !check::same(lines::word(line, 0), name) {
-        return false;
+// The place, from 0, of the form that a line has among several, with a space between each two; their count, where it has
+// none of them.
+pub fn case_of(line: &[u8], forms: &[u8]) -> usize {
+    let count = lines::words(forms) / 2;
+    let call = lines::word(line, 0);
+    let mut k = 0;
+    while k < count {
+        if check::same(lines::word(forms, k * 2), call) {
+            if is_case(line, lines::word(forms, k * 2 + 1)) {
+                return k;
+            }
+        }
+        k += 1;
     }
+    count
+}
+
+// Whether the words behind the call are of the kinds that these letters name.
+fn is_case(line: &[u8], letters: &[u8]) -> bool {
     if lines::words(line) != letters.len() + 1 {
         return false;
     }

@@ -1,7 +1,7 @@
 // `read_pbm FILE ROOM`, whose answer is the number of the refusal, the width, the height, the count of bytes that the image
 // took and the whole chart buffer; `write_pbm W H BYTES ROOM`, whose answer is the number, the count of bytes and the whole
 // output. Refused, sizes and counts are 0.
-use crate::forms::is_case;
+use crate::forms::case_of;
 use crate::limits::BYTE;
 use crate::limits::ROOM;
 use crate::lists::bytes_at;
@@ -14,13 +14,11 @@ use pbm::Picture;
 
 // Puts the answer to a case of a picture at a place of `out`, and answers the place behind it.
 pub fn answer(line: &[u8], out: &mut [u8], at: usize) -> usize {
-    if is_case(line, b"read_pbm", b"Br") {
-        return read(line, out, at);
+    match case_of(line, b"read_pbm Br write_pbm nnBr") {
+        0 => read(line, out, at),
+        1 => write(line, out, at),
+        _ => at,
     }
-    if is_case(line, b"write_pbm", b"nnBr") {
-        return write(line, out, at);
-    }
-    at
 }
 
 fn read(line: &[u8], out: &mut [u8], at: usize) -> usize {

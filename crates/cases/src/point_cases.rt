@@ -1,6 +1,6 @@
 // `points LIST` and `points_f64 LIST`, whose answer is 0, or the lowest of the numbers of TooMany and BadPoint that
 // applies; `tolerance P` and `sq_tolerance P`, whose answer is 0 or the number of BadTolerance.
-use crate::forms::is_case;
+use crate::forms::case_of;
 use crate::limits::VALUES;
 use crate::lists::doubles_at;
 use crate::lists::integers_at;
@@ -22,19 +22,13 @@ const NONE: u8 = u8::MAX;
 
 // The number that a case is answered.
 fn judge(line: &[u8]) -> u8 {
-    if is_case(line, b"points", b"I") {
-        return points(line);
+    match case_of(line, b"points I points_f64 D tolerance d sq_tolerance d") {
+        0 => points(line),
+        1 => points_f64(line),
+        2 => toleranced(point::bad_tolerance(double_at(line, 1))),
+        3 => toleranced(point::bad_sq_tolerance(double_at(line, 1))),
+        _ => NONE,
     }
-    if is_case(line, b"points_f64", b"D") {
-        return points_f64(line);
-    }
-    if is_case(line, b"tolerance", b"d") {
-        return toleranced(point::bad_tolerance(double_at(line, 1)));
-    }
-    if is_case(line, b"sq_tolerance", b"d") {
-        return toleranced(point::bad_sq_tolerance(double_at(line, 1)));
-    }
-    NONE
 }
 
 fn points(line: &[u8]) -> u8 {

@@ -1,7 +1,7 @@
 // `radial SQTOL LIST ROOM`, `douglas_peucker SQTOL LIST ROOM MARKROOM`, `reduce TOL LIST ROOM SCRATCHROOM MARKROOM`,
 // `numbers LIST ROOM` and `zoom SQTOL LIST NUMBERS ROOM`. The answer is the number of the refusal or 0, the count, and
 // each lent buffer, whole.
-use crate::forms::is_case;
+use crate::forms::case_of;
 use crate::limits::BYTE;
 use crate::limits::DOUBLE;
 use crate::limits::INTEGER;
@@ -19,22 +19,17 @@ use crate::reading::room_at;
 
 // Puts the answer to a case of a reduction at a place of `out`, and answers the place behind it.
 pub fn answer(line: &[u8], out: &mut [u8], at: usize) -> usize {
-    if is_case(line, b"numbers", b"Ir") {
-        return numbers(line, out, at);
+    match case_of(
+        line,
+        b"numbers Ir radial dIr douglas_peucker dIrr reduce dIrrr zoom dIDr",
+    ) {
+        0 => numbers(line, out, at),
+        1 => radial(line, out, at),
+        2 => douglas_peucker(line, out, at),
+        3 => reduce(line, out, at),
+        4 => zoom(line, out, at),
+        _ => at,
     }
-    if is_case(line, b"radial", b"dIr") {
-        return radial(line, out, at);
-    }
-    if is_case(line, b"douglas_peucker", b"dIrr") {
-        return douglas_peucker(line, out, at);
-    }
-    if is_case(line, b"reduce", b"dIrrr") {
-        return reduce(line, out, at);
-    }
-    if is_case(line, b"zoom", b"dIDr") {
-        return zoom(line, out, at);
-    }
-    at
 }
 
 fn numbers(line: &[u8], out: &mut [u8], at: usize) -> usize {

@@ -1,7 +1,7 @@
 // `remove_staircase CLOCKWISE LIST ROOM`, `limit_penalties LIST ROOM` and `simplify CLOCKWISE LIST ROOM`. The answer is
 // the number of the refusal, or 0, the count of points, and all that the lent buffer then holds.
 ghost use Prim.Native.Nat.{_≤_};
-use crate::forms::is_case;
+use crate::forms::case_of;
 use crate::limits::INTEGER;
 use crate::limits::ROOM;
 use crate::limits::VALUES;
@@ -19,16 +19,15 @@ enum Call {
 
 // Puts the answer to a case of a simplification at a place of `out`, and answers the place behind it.
 pub fn answer(line: &[u8], out: &mut [u8], at: usize) -> usize {
-    if is_case(line, b"remove_staircase", b"cIr") {
-        return given(Call::Staircase(choice_at(line, 1)), line, 2, out, at);
+    match case_of(
+        line,
+        b"remove_staircase cIr limit_penalties Ir simplify cIr",
+    ) {
+        0 => given(Call::Staircase(choice_at(line, 1)), line, 2, out, at),
+        1 => given(Call::Penalties, line, 1, out, at),
+        2 => given(Call::Both(choice_at(line, 1)), line, 2, out, at),
+        _ => at,
     }
-    if is_case(line, b"limit_penalties", b"Ir") {
-        return given(Call::Penalties, line, 1, out, at);
-    }
-    if is_case(line, b"simplify", b"cIr") {
-        return given(Call::Both(choice_at(line, 1)), line, 2, out, at);
-    }
-    at
 }
 
 // The answer of a call to the list at a place of the line and the room behind it.

@@ -1,7 +1,7 @@
 // `corners C S CLOSED LIST ROOM`, whose answer is the number of the refusal or 0, the count and the flags, and `subdivide
 // RATIO LENGTH CLOSED NUMBERS CORNERS ROOM FLAGROOM`, whose answer has whether the round is finished behind the count, and
 // both buffers.
-use crate::forms::is_case;
+use crate::forms::case_of;
 use crate::limits::BYTE;
 use crate::limits::DOUBLE;
 use crate::limits::ROOM;
@@ -23,13 +23,11 @@ use smooth::Settings;
 
 // Puts the answer to a case of corners or of a round at a place of `out`, and answers the place behind it.
 pub fn answer(line: &[u8], out: &mut [u8], at: usize) -> usize {
-    if is_case(line, b"corners", b"iicIr") {
-        return corners(line, out, at);
+    match case_of(line, b"corners iicIr subdivide ddcDBrr") {
+        0 => corners(line, out, at),
+        1 => subdivide(line, out, at),
+        _ => at,
     }
-    if is_case(line, b"subdivide", b"ddcDBrr") {
-        return subdivide(line, out, at);
-    }
-    at
 }
 
 fn corners(line: &[u8], out: &mut [u8], at: usize) -> usize {

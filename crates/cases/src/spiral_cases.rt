@@ -1,6 +1,6 @@
 // `spiral SIZE`, whose answer is the number of the refusal and the fresh state; `spiral_step STATE`, whose answer is the
 // number, the point or `none`, and the state after it. A state is the nine fields of a spiral, in their order.
-use crate::forms::is_case;
+use crate::forms::case_of;
 use crate::putting::put_integer;
 use crate::putting::put_natural;
 use crate::putting::put_point;
@@ -14,14 +14,15 @@ use spiral::Turn;
 
 // Puts the answer to a case of a spiral at a place of `out`, and answers the place behind it.
 pub fn answer(line: &[u8], out: &mut [u8], at: usize) -> usize {
-    if is_case(line, b"spiral", b"n") {
-        return put_fresh(spiral::spiral(natural_at(line, 1)), out, at);
+    match case_of(line, b"spiral n spiral_step iiiiiiinn") {
+        0 => put_fresh(spiral::spiral(natural_at(line, 1)), out, at),
+        1 => step(state_of(line), out, at),
+        _ => at,
     }
-    if is_case(line, b"spiral_step", b"iiiiiiinn") {
-        let s = state_of(line);
-        return put_turn(spiral::spiral_step(s), s, out, at);
-    }
-    at
+}
+
+fn step(s: SpiralWalker, out: &mut [u8], at: usize) -> usize {
+    put_turn(spiral::spiral_step(s), s, out, at)
 }
 
 fn state_of(line: &[u8]) -> SpiralWalker {

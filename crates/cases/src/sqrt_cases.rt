@@ -1,6 +1,6 @@
 // `sqrt_bits P`, the pattern of the root of the double whose pattern is P, and `sqrt P`, the same by way of f64, where a
 // NaN is written `nan`.
-use crate::forms::is_case;
+use crate::forms::case_of;
 use crate::putting::put_double;
 use crate::putting::put_pattern;
 use crate::putting::put_word;
@@ -8,13 +8,11 @@ use crate::reading::pattern_at;
 
 // Puts the answer to a case of the square root at a place of `out`, and answers the place behind it.
 pub fn answer(line: &[u8], out: &mut [u8], at: usize) -> usize {
-    if is_case(line, b"sqrt_bits", b"d") {
-        return put_pattern(sqrt::sqrt_bits(pattern_at(line, 1)), b' ', out, at);
+    match case_of(line, b"sqrt_bits d sqrt d") {
+        0 => put_pattern(sqrt::sqrt_bits(pattern_at(line, 1)), b' ', out, at),
+        1 => put_root(sqrt::sqrt(sqrt::from_bits(pattern_at(line, 1))), out, at),
+        _ => at,
     }
-    if is_case(line, b"sqrt", b"d") {
-        return put_root(sqrt::sqrt(sqrt::from_bits(pattern_at(line, 1))), out, at);
-    }
-    at
 }
 
 fn put_root(root: f64, out: &mut [u8], at: usize) -> usize {

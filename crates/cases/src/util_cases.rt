@@ -1,7 +1,7 @@
 // `signed_area X1 Y1 X2 Y2 X3 Y3` and `norm_i32 X Y` of whole numbers, `norm`, `mid_point` and `intersection` of doubles,
 // two for each point, and `ratios` of the two of a crossing. The answer is the number of the refusal, or 0 and what was
 // worked out.
-use crate::forms::is_case;
+use crate::forms::case_of;
 use crate::putting::put_choice;
 use crate::putting::put_double;
 use crate::putting::put_integer;
@@ -17,40 +17,26 @@ use util::Signed;
 
 // Puts the answer to a case of points and lines at a place of `out`, and answers the place behind it.
 pub fn answer(line: &[u8], out: &mut [u8], at: usize) -> usize {
-    let end = of_lengths(line, out, at);
-    of_points(line, out, end)
-}
-
-fn of_lengths(line: &[u8], out: &mut [u8], at: usize) -> usize {
-    if is_case(line, b"norm_i32", b"ii") {
-        return put_length(util::norm_i32(point_at(line, 1)), out, at);
+    match case_of(
+        line,
+        b"signed_area iiiiii norm_i32 ii norm dd mid_point dddd intersection dddddddd ratios dd",
+    ) {
+        0 => put_area(signed_area(line), out, at),
+        1 => put_length(util::norm_i32(point_at(line, 1)), out, at),
+        2 => put_length(util::norm(place_at(line, 1)), out, at),
+        3 => put_middle(mid_point(line), out, at),
+        4 => put_crossing(intersection(line), out, at),
+        5 => put_says(ratios(place_at(line, 1)), out, at),
+        _ => at,
     }
-    if is_case(line, b"norm", b"dd") {
-        return put_length(util::norm(place_at(line, 1)), out, at);
-    }
-    if is_case(line, b"ratios", b"dd") {
-        let p = place_at(line, 1);
-        return put_says(Intersection::Cross(p, p.x, p.y), out, at);
-    }
-    at
-}
-
-fn of_points(line: &[u8], out: &mut [u8], at: usize) -> usize {
-    if is_case(line, b"signed_area", b"iiiiii") {
-        return put_area(signed_area(line), out, at);
-    }
-    if is_case(line, b"mid_point", b"dddd") {
-        let answer = util::find_mid_point(place_at(line, 1), place_at(line, 3));
-        return put_middle(answer, out, at);
-    }
-    if is_case(line, b"intersection", b"dddddddd") {
-        return put_crossing(intersection(line), out, at);
-    }
-    at
 }
 
 fn signed_area(line: &[u8]) -> Signed {
     util::signed_area(point_at(line, 1), point_at(line, 3), point_at(line, 5))
+}
+
+fn mid_point(line: &[u8]) -> MidPoint {
+    util::find_mid_point(place_at(line, 1), place_at(line, 3))
 }
 
 fn intersection(line: &[u8]) -> Intersection {
@@ -60,6 +46,11 @@ fn intersection(line: &[u8]) -> Intersection {
         place_at(line, 5),
         place_at(line, 7),
     )
+}
+
+// A crossing with these two ratios.
+fn ratios(p: PointF64) -> Intersection {
+    Intersection::Cross(p, p.x, p.y)
 }
 
 fn put_area(answer: Signed, out: &mut [u8], at: usize) -> usize {

@@ -1,5 +1,5 @@
 // `walk CLOCKWISE W H BYTES X Y ROOM`, whose answer is the number of the refusal, the count of points and the whole buffer.
-use crate::forms::is_case;
+use crate::forms::case_of;
 use crate::limits::INTEGER;
 use crate::limits::ROOM;
 use crate::lists::bytes_at;
@@ -11,10 +11,10 @@ use crate::reading::room_at;
 
 // Puts the answer to a case of a walk at a place of `out`, and answers the place behind it.
 pub fn answer(line: &[u8], out: &mut [u8], at: usize) -> usize {
-    if is_case(line, b"walk", b"cnnBiir") {
-        return walk(line, out, at);
+    match case_of(line, b"walk cnnBiir") {
+        0 => walk(line, out, at),
+        _ => at,
     }
-    at
 }
 
 fn walk(line: &[u8], out: &mut [u8], at: usize) -> usize {
