@@ -18,7 +18,7 @@
 //         draw(kept, n); // kept[0], kept[1] is the first point, kept[2 * n - 2], kept[2 * n - 1] the last
 //
 // It is one outline: a hole, and a bank that does not touch this one, is not walked from the same start. Where the walk
-// answers 9, pixels touch only diagonally somewhere: "Outlines" below says what to do.
+// answers 9, pixels touch only diagonally somewhere: "Walks" below says what to do.
 //
 // WHAT IT IS ALL MADE OF
 //
@@ -106,7 +106,9 @@ enum sandline_number {
     SANDLINE_BAD_PICTURE = 12   // no PBM picture, or not all of one
 };
 
-// ---- Charts. Each refuses a bad size or too few bytes: SANDLINE_BAD_SIZE.
+// ---- Charts: a pixel, the area, and where a walk may begin.
+//
+// Each refuses a bad size or too few bytes: SANDLINE_BAD_SIZE.
 
 // Whether the pixel in column x of row y is set. Refuses nothing: outside the chart, past the last byte, and
 // of a chart wider than 512, no pixel is set.
@@ -122,6 +124,59 @@ uint8_t sandline_area(size_t width, size_t height, const uint8_t *pixels, size_t
 // Stack of sandline_first_start: 16 bytes.
 uint8_t sandline_first_start(size_t width, size_t height, const uint8_t *pixels, size_t bytes,
                              int32_t start[2]);
+
+// ---- Walks along the outline of what is set.
+
+// The outline of what is set, walked from the corner (x, y) of a pixel: the start, then the end of each run
+// until one ends on the start. At a fork the walk tries up, right, down, left if clockwise, else left, down,
+// right, up. An outline may have over 4,096 points; other calls then refuse it.
+//
+// A walk follows one outline. A hole, and a bank that does not touch this one, needs a walk and a start of its own.
+//
+// 9 says that a walk has not come back to its start. There are two reasons, each with its remedy:
+// - The start lies in the middle of a straight edge, where no run ends. Start where the outline turns.
+// - Pixels touch only diagonally, so that outlines meet in a point and the walk goes on along another one. The
+//   smallest chart that answers 9 from its first start is
+//       #.#
+//       .#.
+//   and of the 673 charts up to 3 by 3 that are not blank 28 do. So before the walk, wherever of the four pixels around
+//   a point only two are set that lie across from each other, set the other two or clear these, until there is no such
+//   point left: of the charts up to 4 by 4 without one, none answers 9 from its first start. Or start elsewhere (each
+//   of the 28 has a start that is answered), or walk the other way round (24 of them are answered so); such a walk may
+//   go around a part only, or along an edge twice.
+//
+// Room: 2 elements for each point of the outline.
+// Refuses: a bad chart (1), x or y beyond 16,383 (3), a start whose four pixels are alike (8), over 1,000,000 steps
+// after some run (9), no room (10).
+// Stack of sandline_walk: 384 bytes.
+uint8_t sandline_walk(size_t width, size_t height, const uint8_t *pixels, size_t bytes, int32_t x, int32_t y,
+                      bool clockwise, int32_t *out, size_t room, size_t *count);
+
+// ---- Spirals: a square of pixels, one by one from its centre outwards.
+
+// Where a spiral stands, and how it goes on. A caller may keep it, copy it and look at it.
+typedef struct sandline_spiral_walker {
+    int32_t x;   // -512 to 512
+    int32_t y;   // -512 to 512
+    int32_t dir; // 0 to 3
+    int32_t gx;  // -1 to 1
+    int32_t gy;  // -1 to 1
+    int32_t sq;  // 1 to 1,024
+    int32_t cc;  // 0 to sq - 1
+    size_t area; // up to 262,144
+    size_t step; // up to area
+} sandline_spiral_walker;
+
+// The spiral of a square of size by size, 0 to 512, before its first step.
+// Refuses a size beyond that: SANDLINE_BAD_SIZE.
+// Stack of sandline_spiral: 8 bytes.
+uint8_t sandline_spiral(size_t size, sandline_spiral_walker *spiral);
+
+// One step: the place that the spiral stood on, x and y, and a count of 1; or a count of 0 where it has ended, and
+// then place and spiral hold what they held. (Odd sizes from 3 leave the square, as in the Rust.)
+// Refuses a field out of range: SANDLINE_BAD_SIZE, and a count of 0 too.
+// Stack of sandline_spiral_advance: 56 bytes.
+uint8_t sandline_spiral_advance(sandline_spiral_walker *spiral, int32_t place[2], size_t *count);
 
 // ---- Pictures: charts out of Netpbm's PBM files, and into them.
 
@@ -156,35 +211,51 @@ uint8_t sandline_read_pbm(const uint8_t *file, size_t length, uint8_t *pixels, s
 uint8_t sandline_write_pbm(size_t width, size_t height, const uint8_t *pixels, size_t bytes, uint8_t *out,
                            size_t room, size_t *count);
 
-// ---- Outlines.
+// ---- Geometry: areas, midpoints, lengths, and where two lines cross.
+//
+// Each but the last three refuses a coordinate out of range, NaN or infinite: SANDLINE_BAD_POINT.
 
-// The outline of what is set, walked from the corner (x, y) of a pixel: the start, then the end of each run
-// until one ends on the start. At a fork the walk tries up, right, down, left if clockwise, else left, down,
-// right, up. An outline may have over 4,096 points; other calls then refuse it.
-//
-// A walk follows one outline. A hole, and a bank that does not touch this one, needs a walk and a start of its own.
-//
-// 9 says that a walk has not come back to its start. There are two reasons, each with its remedy:
-// - The start lies in the middle of a straight edge, where no run ends. Start where the outline turns.
-// - Pixels touch only diagonally, so that outlines meet in a point and the walk goes on along another one. The
-//   smallest chart that answers 9 from its first start is
-//       #.#
-//       .#.
-//   and of the 673 charts up to 3 by 3 that are not blank 28 do. So before the walk, wherever of the four pixels around
-//   a point only two are set that lie across from each other, set the other two or clear these, until there is no such
-//   point left: of the charts up to 4 by 4 without one, none answers 9 from its first start. Or start elsewhere (each
-//   of the 28 has a start that is answered), or walk the other way round (24 of them are answered so); such a walk may
-//   go around a part only, or along an edge twice.
-//
-// Room: 2 elements for each point of the outline.
-// Refuses: a bad chart (1), x or y beyond 16,383 (3), a start whose four pixels are alike (8), over 1,000,000 steps
-// after some run (9), no room (10).
-// Stack of sandline_walk: 384 bytes.
-uint8_t sandline_walk(size_t width, size_t height, const uint8_t *pixels, size_t bytes, int32_t x, int32_t y,
-                      bool clockwise, int32_t *out, size_t room, size_t *count);
+// Twice the area of the triangle of three points, x, y, x, y, x, y: positive where they turn clockwise. (The
+// Rust's signed_area, which does not halve it.)
+// Stack of sandline_signed_area: 16 bytes.
+uint8_t sandline_signed_area(const int32_t points[6], int32_t *area);
 
-// The next three put the points of a list that are left at the start of out. Each refuses too many points (2),
-// a bad list (3) and no room (10): 2n elements for n points, 4 for a single one.
+// The midpoint of two points, x, y, x, y.
+// Stack of sandline_find_mid_point: 8 bytes.
+uint8_t sandline_find_mid_point(const double points[4], double middle[2]);
+
+// The length of a vector, with fractions and without.
+// Stack of sandline_norm: 40 bytes.
+// Stack of sandline_norm_i32: 40 bytes.
+uint8_t sandline_norm(double x, double y, double *length);
+uint8_t sandline_norm_i32(int32_t x, int32_t y, double *length);
+
+// Where two lines cross, each given by two of its points, x, y, x, y. Count says which it is, and how many
+// values stand at the start of values:
+//   0  the lines are parallel
+//   2  they are one line: the midpoint of the first two points, x and y
+//   4  they cross: x and y, then where that is on the first line and on the second, 0 for its first point and
+//      1 for its second
+// A refusal counts 0 too: look at the number first.
+// Stack of sandline_find_intersection: 8 bytes.
+uint8_t sandline_find_intersection(const double first[4], const double second[4], double values[4],
+                                   size_t *count);
+
+// What such an answer says of the two pairs of points, within 1e-3 of a ratio: whether the crossing lies outside of
+// either pair, inside of both, and whether the lines are one. The values are those that
+// sandline_find_intersection put, count those that it counted; any other count stands for parallel lines, of
+// which all three are false. They look at the ratios alone and refuse nothing.
+// Stack of sandline_outside: 8 bytes.
+// Stack of sandline_inside: 8 bytes.
+// Stack of sandline_coincide: 8 bytes.
+bool sandline_outside(const double *values, size_t count);
+bool sandline_inside(const double *values, size_t count);
+bool sandline_coincide(const double *values, size_t count);
+
+// ---- Simplification: an outline without staircases, and without the points that cost little.
+//
+// Each puts the points of a list that are left at the start of out. Each refuses too many points (2), a bad list (3)
+// and no room (10): 2n elements for n points, 4 for a single one.
 
 // Without one-pixel staircases. Clockwise says which way round the list goes.
 // Stack of sandline_remove_staircase: 104 bytes.
@@ -201,8 +272,41 @@ uint8_t sandline_limit_penalties(const int32_t *points, size_t length, int32_t *
 uint8_t sandline_simplify(const int32_t *points, size_t length, bool clockwise, int32_t *out, size_t room,
                           size_t *count);
 
-// ---- Zooms: fewer points, the wider the tolerance. By Douglas-Peucker, and by numbers and zoom, they nest: a
-// point that is kept at one tolerance is kept at every lower one. The radial pass, and so reduce, does not nest.
+// ---- Corners: where an outline turns.
+
+// A flag for each point, 1 for a corner: where the outline turns at least by the angle whose cosine and sine
+// are proportional to c and s, so that 0 and 1 stand for 90 degrees. Exact, in whole numbers. An open list's
+// ends are corners; a closed list's last point is left out, and has no flag. Count is in flags.
+//
+// c is -1,000 to 1,000, s 1 to 1,000. Room: n flags, n - 1 of a closed list.
+// Refuses too many points (2), a bad list (3), no points (4), a bad pair (7), no room (10).
+// Stack of sandline_find_corners: 56 bytes.
+uint8_t sandline_find_corners(const int32_t *points, size_t length, int32_t c, int32_t s, bool closed,
+                              uint8_t *flags, size_t room, size_t *count);
+
+// ---- Smoothing: one round of subdivision.
+
+// One round of subdivision: between two points a third may enter, a little outside, so that the outline is
+// smoother; corners stay. Corners holds a flag for each point, as sandline_find_corners puts them (n of an open
+// list, n - 1 of a closed one). The greater the ratio, the less a new point leaves its segment; a segment of at
+// most the given length is left as it is. Flags starts with a flag for each point answered (a closed list's
+// last has none). Finished is true if of every point that entered both new segments are at most that long, so
+// also if none entered: no other round is needed.
+//
+// ratio is 1 to 1,000, length 0 to 65,536.
+// Room: 2n - 1 points, that is 4n - 2 doubles, and 2n - 1 flags; none where n is 0.
+// Refuses too many points (2), a bad list (3), a closed list of fewer than 2 points (4), bad flags (6), bad settings
+// (7), no room (10); then finished holds what it held.
+// Stack of sandline_subdivide_keep_corners: 392 bytes.
+uint8_t sandline_subdivide_keep_corners(const double *points, size_t points_length, const uint8_t *corners,
+                                        size_t corners_length, double ratio, double length, bool closed,
+                                        double *out, size_t room, uint8_t *flags, size_t flag_room, size_t *count,
+                                        bool *finished);
+
+// ---- Zooms: fewer points, the wider the tolerance.
+//
+// By Douglas-Peucker, and by numbers and zoom, they nest: a point that is kept at one tolerance is kept at every lower
+// one. The radial pass, and so reduce, does not nest.
 //
 // For six zooms of one list call sandline_numbers once and sandline_zoom six times.
 //
@@ -244,7 +348,7 @@ uint8_t sandline_numbers(const int32_t *points, size_t length, double *out, size
 uint8_t sandline_zoom(const int32_t *points, size_t length, const double *numbers, size_t numbers_length,
                       double tolerance, int32_t *out, size_t room, size_t *count);
 
-// ---- Geometry.
+// ---- Square roots.
 
 // The square root as IEEE 754 has it: the double nearest to the exact root, ties to even. -0 gives -0, and NaN
 // or below zero gives NaN. The second takes and gives a double's bits, its NaN always 0x7ff8000000000000.
@@ -253,101 +357,7 @@ uint8_t sandline_zoom(const int32_t *points, size_t length, const double *number
 double sandline_sqrt(double x);
 uint64_t sandline_sqrt_bits(uint64_t bits);
 
-// Each of the next five refuses a coordinate out of range, NaN or infinite: SANDLINE_BAD_POINT.
-
-// Twice the area of the triangle of three points, x, y, x, y, x, y: positive where they turn clockwise. (The
-// Rust's signed_area, which does not halve it.)
-// Stack of sandline_signed_area: 16 bytes.
-uint8_t sandline_signed_area(const int32_t points[6], int32_t *area);
-
-// The midpoint of two points, x, y, x, y.
-// Stack of sandline_find_mid_point: 8 bytes.
-uint8_t sandline_find_mid_point(const double points[4], double middle[2]);
-
-// The length of a vector, with fractions and without.
-// Stack of sandline_norm: 40 bytes.
-// Stack of sandline_norm_i32: 40 bytes.
-uint8_t sandline_norm(double x, double y, double *length);
-uint8_t sandline_norm_i32(int32_t x, int32_t y, double *length);
-
-// Where two lines cross, each given by two of its points, x, y, x, y. Count says which it is, and how many
-// values stand at the start of values:
-//   0  the lines are parallel
-//   2  they are one line: the midpoint of the first two points, x and y
-//   4  they cross: x and y, then where that is on the first line and on the second, 0 for its first point and
-//      1 for its second
-// A refusal counts 0 too: look at the number first.
-// Stack of sandline_find_intersection: 8 bytes.
-uint8_t sandline_find_intersection(const double first[4], const double second[4], double values[4],
-                                   size_t *count);
-
-// What such an answer says of the two pairs of points, within 1e-3 of a ratio: whether the crossing lies outside of
-// either pair, inside of both, and whether the lines are one. The values are those that
-// sandline_find_intersection put, count those that it counted; any other count stands for parallel lines, of
-// which all three are false. They look at the ratios alone and refuse nothing.
-// Stack of sandline_outside: 8 bytes.
-// Stack of sandline_inside: 8 bytes.
-// Stack of sandline_coincide: 8 bytes.
-bool sandline_outside(const double *values, size_t count);
-bool sandline_inside(const double *values, size_t count);
-bool sandline_coincide(const double *values, size_t count);
-
-// ---- Smoothing.
-
-// A flag for each point, 1 for a corner: where the outline turns at least by the angle whose cosine and sine
-// are proportional to c and s, so that 0 and 1 stand for 90 degrees. Exact, in whole numbers. An open list's
-// ends are corners; a closed list's last point is left out, and has no flag. Count is in flags.
-//
-// c is -1,000 to 1,000, s 1 to 1,000. Room: n flags, n - 1 of a closed list.
-// Refuses too many points (2), a bad list (3), no points (4), a bad pair (7), no room (10).
-// Stack of sandline_find_corners: 56 bytes.
-uint8_t sandline_find_corners(const int32_t *points, size_t length, int32_t c, int32_t s, bool closed,
-                              uint8_t *flags, size_t room, size_t *count);
-
-// One round of subdivision: between two points a third may enter, a little outside, so that the outline is
-// smoother; corners stay. Corners holds a flag for each point, as sandline_find_corners puts them (n of an open
-// list, n - 1 of a closed one). The greater the ratio, the less a new point leaves its segment; a segment of at
-// most the given length is left as it is. Flags starts with a flag for each point answered (a closed list's
-// last has none). Finished is true if of every point that entered both new segments are at most that long, so
-// also if none entered: no other round is needed.
-//
-// ratio is 1 to 1,000, length 0 to 65,536.
-// Room: 2n - 1 points, that is 4n - 2 doubles, and 2n - 1 flags; none where n is 0.
-// Refuses too many points (2), a bad list (3), a closed list of fewer than 2 points (4), bad flags (6), bad settings
-// (7), no room (10); then finished holds what it held.
-// Stack of sandline_subdivide_keep_corners: 392 bytes.
-uint8_t sandline_subdivide_keep_corners(const double *points, size_t points_length, const uint8_t *corners,
-                                        size_t corners_length, double ratio, double length, bool closed,
-                                        double *out, size_t room, uint8_t *flags, size_t flag_room, size_t *count,
-                                        bool *finished);
-
-// ---- Spirals: a square of pixels, one by one from its centre outwards.
-
-// Where a spiral stands, and how it goes on. A caller may keep it, copy it and look at it.
-typedef struct sandline_spiral_walker {
-    int32_t x;   // -512 to 512
-    int32_t y;   // -512 to 512
-    int32_t dir; // 0 to 3
-    int32_t gx;  // -1 to 1
-    int32_t gy;  // -1 to 1
-    int32_t sq;  // 1 to 1,024
-    int32_t cc;  // 0 to sq - 1
-    size_t area; // up to 262,144
-    size_t step; // up to area
-} sandline_spiral_walker;
-
-// The spiral of a square of size by size, 0 to 512, before its first step.
-// Refuses a size beyond that: SANDLINE_BAD_SIZE.
-// Stack of sandline_spiral: 8 bytes.
-uint8_t sandline_spiral(size_t size, sandline_spiral_walker *spiral);
-
-// One step: the place that the spiral stood on, x and y, and a count of 1; or a count of 0 where it has ended, and
-// then place and spiral hold what they held. (Odd sizes from 3 leave the square, as in the Rust.)
-// Refuses a field out of range: SANDLINE_BAD_SIZE, and a count of 0 too.
-// Stack of sandline_spiral_advance: 56 bytes.
-uint8_t sandline_spiral_advance(sandline_spiral_walker *spiral, int32_t place[2], size_t *count);
-
-// ---- Frames.
+// ---- Frames: a call as a line of hexadecimal digits.
 
 // The answer to a frame: a line of hexadecimal digits, with no end of line, as document 01 has them under "Frames".
 // It is written from out[at] on, also with no end of line, and the place behind it is returned; where it does not fit

@@ -158,6 +158,45 @@ static void walks(void) {
     expect("sandline_walk", "here", "10 0");
 }
 
+static void put_spiral(const sandline_spiral_walker *s) {
+    put(" %d %d %d %d %d %d %d %zu %zu", (int)s->x, (int)s->y, (int)s->dir, (int)s->gx, (int)s->gy, (int)s->sq,
+        (int)s->cc, s->area, s->step);
+}
+
+static void spirals(void) {
+    sandline_spiral_walker s;
+    memset(&s, 0, sizeof s);
+
+    put("%d", sandline_spiral(513, &s));
+    put_spiral(&s);
+    expect("sandline_spiral", "refusal", "1 0 0 0 0 0 0 0 0 0");
+    put("%d", sandline_spiral(2, &s));
+    put_spiral(&s);
+    expect("sandline_spiral", "oracle", "0 0 0 0 1 0 1 0 4 0"); // spiral 2
+
+    for (int k = 0; k < 4; k++) {
+        static const char *const places[] = {"0 1 0,0", "0 1 1,0", "0 1 1,1", "0 1 0,1"};
+        put_answer(sandline_spiral_advance(&s, place, &count));
+        put_values(place, 2);
+        expect("sandline_spiral_advance", "01, P12", places[k]);
+    }
+    put_answer(sandline_spiral_advance(&s, place, &count));
+    put_values(place, 2);
+    expect("sandline_spiral_advance", "01, P12", "0 0 -99999,-99999"); // the end
+
+    s.dir = 4;
+    s.area = 262144;
+    s.step = 7;
+    {
+        const sandline_spiral_walker old = s;
+        put_answer(sandline_spiral_advance(&s, place, &count));
+        put_values(place, 2);
+        put(" %d", s.x == old.x && s.y == old.y && s.dir == old.dir && s.gx == old.gx && s.gy == old.gy
+                       && s.sq == old.sq && s.cc == old.cc && s.area == old.area && s.step == old.step);
+    }
+    expect("sandline_spiral_advance", "refusal", "1 0 -99999,-99999 1"); // it leaves the state as it came
+}
+
 // Reads a picture of so many bytes into so much room, and puts what comes of it.
 static void read_picture(const char *file, size_t length, size_t room) {
     size_t width = OLD_COUNT, height = OLD_COUNT;
@@ -203,7 +242,73 @@ static void pictures(void) {
     expect("sandline_write_pbm", "here", "10 0");
 }
 
-static void outlines(void) {
+static void geometry(void) {
+    const int32_t corner[] = {0, 0, 4, 0, 4, 4}, off[] = {0, 0, 4, 0, 4, -16384};
+    const double crossing[][4] = {{0, 0, 2, 2}, {0, 2, 2, 0}}, level[][4] = {{0, 0, 2, 0}, {0, 1, 2, 1}};
+    const double same[][4] = {{0, 0, 4, 0}, {1, 0, 3, 0}}, endless[] = {0, 0, 0, INFINITY};
+    int32_t area = OLD;
+
+    put("%d", sandline_signed_area(corner, &area));
+    put_values(&area, 1);
+    expect("sandline_signed_area", "oracle", "0 16"); // signed_area 0 0 4 0 4 4
+    area = OLD;
+    put("%d", sandline_signed_area(off, &area));
+    put_values(&area, 1);
+    expect("sandline_signed_area", "refusal", "3 -99999");
+
+    {
+        const double ends[] = {0, 0, 3, -4};
+        put("%d", sandline_find_mid_point(ends, reals));
+        put_reals(reals, 3);
+        // oracle: mid_point 0000000000000000 0000000000000000 4008000000000000 c010000000000000
+        expect("sandline_find_mid_point", "oracle", "0 1.5,-2,-99999");
+        put("%d", sandline_find_mid_point(endless, reals));
+        put_reals(reals, 2);
+        expect("sandline_find_mid_point", "refusal", "3 -99999,-99999");
+    }
+
+    put("%d", sandline_norm(3, -4, reals));
+    put_reals(reals, 2);
+    expect("sandline_norm", "oracle", "0 5,-99999"); // norm 4008000000000000 c010000000000000
+    put("%d", sandline_norm(3, NAN, reals));
+    put_reals(reals, 1);
+    expect("sandline_norm", "refusal", "3 -99999");
+    put("%d", sandline_norm_i32(3, -4, reals));
+    put_reals(reals, 2);
+    expect("sandline_norm_i32", "oracle", "0 5,-99999"); // norm_i32 3 -4
+    put("%d", sandline_norm_i32(INT32_MIN, 0, reals));
+    put_reals(reals, 1);
+    expect("sandline_norm_i32", "refusal", "3 -99999");
+
+    put_answer(sandline_find_intersection(crossing[0], crossing[1], reals, &count));
+    put_reals(reals, 5);
+    expect("sandline_find_intersection", "01", "0 4 1,1,0.5,0.5,-99999");
+    put_answer(sandline_find_intersection(level[0], level[1], reals, &count));
+    put_reals(reals, 1);
+    // oracle: intersection of these, 0 parallel
+    expect("sandline_find_intersection", "oracle", "0 0 -99999");
+    put_answer(sandline_find_intersection(same[0], same[1], reals, &count));
+    put_reals(reals, 3);
+    expect("sandline_find_intersection", "01", "0 2 2,0,-99999"); // the midpoint of the first line
+    put_answer(sandline_find_intersection(same[0], endless, reals, &count));
+    put_reals(reals, 1);
+    expect("sandline_find_intersection", "refusal", "3 0 -99999");
+
+    {
+        const double within[] = {1, 1, 0.5, 0.5}, half[] = {1, 1, NAN, 0.5}, away[] = {1, 1, NAN, 5};
+        const double neither[] = {1, 1, NAN, NAN};
+        const double *cases[] = {within, half, away, neither, within, NULL};
+        const size_t counts[] = {4, 4, 4, 4, 2, 0}; // the last two: Coincide and Parallel
+        for (int k = 0; k < 6; k++) put("%d", sandline_outside(cases[k], counts[k]));
+        expect("sandline_outside", "01", "001000");
+        for (int k = 0; k < 6; k++) put("%d", sandline_inside(cases[k], counts[k]));
+        expect("sandline_inside", "01", "110110"); // a NaN alone never makes it outside
+        for (int k = 0; k < 6; k++) put("%d", sandline_coincide(cases[k], counts[k]));
+        expect("sandline_coincide", "01", "000110");
+    }
+}
+
+static void simplification(void) {
     put_answer(sandline_remove_staircase(pixel, 10, false, out, 10, &count));
     put_values(out, 6);
     expect("sandline_remove_staircase", "01, P3", "0 2 0,0,0,0,-99999,-99999");
@@ -244,6 +349,72 @@ static void outlines(void) {
     put_answer(sandline_simplify(long_list, 8194, true, out, 20, &count));
     put_values(out, 2);
     expect("sandline_simplify", "refusal", "2 0 -99999,-99999"); // 4,097 points
+}
+
+static void corners(void) {
+    const int32_t straight[] = {0, 0, 4, 0, 8, 0};
+
+    put_answer(sandline_find_corners(square, 10, 0, 1, true, flags, 4, &count));
+    put_bytes(flags, 5);
+    expect("sandline_find_corners", "01", "0 4 1,1,1,1,238"); // (0,1) stands for 90 degrees; the last is dropped
+    put_answer(sandline_find_corners(straight, 6, 0, 1, false, flags, 3, &count));
+    put_bytes(flags, 4);
+    expect("sandline_find_corners", "01", "0 3 1,0,1,238"); // open lists flag both ends
+    put_answer(sandline_find_corners(square, 10, 0, 0, true, flags, 4, &count));
+    put_bytes(flags, 1);
+    expect("sandline_find_corners", "refusal", "7 0 238");
+    put_answer(sandline_find_corners(square, 10, 0, 1, false, flags, 4, &count));
+    put_bytes(flags, 1);
+    expect("sandline_find_corners", "refusal", "10 0 238"); // an open list needs five
+    put_answer(sandline_find_corners(NULL, 0, 0, 1, true, NULL, 0, &count));
+    expect("sandline_find_corners", "refusal", "4 0");
+}
+
+static void smoothing(void) {
+    const double square_f64[] = {0, 0, 4, 0, 4, 4, 0, 4, 0, 0};
+    const uint8_t none[] = {0, 0, 0, 0}, first[] = {1, 0, 0, 0}, all[] = {1, 1, 1, 1}, odd[] = {0, 2, 0, 0};
+
+    put_answer(sandline_subdivide_keep_corners(square_f64, 10, none, 4, 8, 1, true, reals, 18, flags, 9, &count,
+                                               &finished));
+    put(" %d", finished);
+    put_reals(reals, 19);
+    put_bytes(flags, 9);
+    // oracle: subdivide 4020000000000000 3ff0000000000000 1, the square, 0,0,0,0 as bytes, 18 9
+    expect("sandline_subdivide_keep_corners", "01 and oracle",
+           "0 9 0 0,0,2,-0.5,4,0,4.5,2,4,4,2,4.5,0,4,-0.5,2,0,0,-99999 0,0,0,0,0,0,0,0,238");
+    put_answer(sandline_subdivide_keep_corners(square_f64, 10, first, 4, 8, 1, true, reals, 18, flags, 9, &count,
+                                               &finished));
+    put(" %d", finished);
+    put_reals(reals, 4);
+    put_bytes(flags, 9);
+    // oracle: the same with 1,0,0,0
+    expect("sandline_subdivide_keep_corners", "01 and oracle", "0 9 0 0,0,2,-0.25 1,0,0,0,0,0,0,0,238");
+    put_answer(sandline_subdivide_keep_corners(square_f64, 10, all, 4, 8, 1, true, reals, 18, flags, 9, &count,
+                                               &finished));
+    put(" %d", finished);
+    put_reals(reals, 11);
+    put_bytes(flags, 5);
+    expect("sandline_subdivide_keep_corners", "01", "0 5 1 0,0,4,0,4,4,0,4,0,0,-99999 1,1,1,1,238");
+    finished = true;
+    put_answer(sandline_subdivide_keep_corners(square_f64, 10, odd, 4, 8, 1, true, reals, 18, flags, 9, &count,
+                                               &finished));
+    put(" %d", finished);
+    put_reals(reals, 1);
+    put_bytes(flags, 1);
+    expect("sandline_subdivide_keep_corners", "refusal", "6 0 1 -99999 238");
+    put_answer(sandline_subdivide_keep_corners(square_f64, 10, none, 4, 0.5, 1, true, reals, 17, flags, 9, &count,
+                                               &finished));
+    expect("sandline_subdivide_keep_corners", "refusal", "7 0"); // before 10
+    put_answer(sandline_subdivide_keep_corners(square_f64, 10, none, 4, 8, 1, true, reals, 18, flags, 8, &count,
+                                               &finished));
+    put(" %d", finished);
+    put_reals(reals, 1);
+    put_bytes(flags, 1);
+    expect("sandline_subdivide_keep_corners", "refusal", "10 0 0 -99999 238");
+    put_answer(sandline_subdivide_keep_corners(NULL, 0, NULL, 0, 8, 1, false, NULL, 0, NULL, 0, &count, &finished));
+    put(" %d", finished);
+    // oracle: subdivide 4020000000000000 3ff0000000000000 0 - - 0 0
+    expect("sandline_subdivide_keep_corners", "oracle", "0 0 1");
 }
 
 static void zooms(void) {
@@ -336,13 +507,9 @@ static void zooms(void) {
     }
 }
 
-static void geometry(void) {
-    const int32_t corner[] = {0, 0, 4, 0, 4, 4}, off[] = {0, 0, 4, 0, 4, -16384};
-    const double crossing[][4] = {{0, 0, 2, 2}, {0, 2, 2, 0}}, level[][4] = {{0, 0, 2, 0}, {0, 1, 2, 1}};
-    const double same[][4] = {{0, 0, 4, 0}, {1, 0, 3, 0}}, endless[] = {0, 0, 0, INFINITY};
+static void square_roots(void) {
     double bits_of_root = sandline_sqrt(2);
     uint64_t bits;
-    int32_t area = OLD;
 
     memcpy(&bits, &bits_of_root, sizeof bits);
     put("%016llx", (unsigned long long)bits);
@@ -356,167 +523,6 @@ static void geometry(void) {
     expect("sandline_sqrt_bits", "01", "3ff6a09e667f3bcd");
     put("%016llx", (unsigned long long)sandline_sqrt_bits(0xbff0000000000000));
     expect("sandline_sqrt_bits", "01", "7ff8000000000000"); // of -1
-
-    put("%d", sandline_signed_area(corner, &area));
-    put_values(&area, 1);
-    expect("sandline_signed_area", "oracle", "0 16"); // signed_area 0 0 4 0 4 4
-    area = OLD;
-    put("%d", sandline_signed_area(off, &area));
-    put_values(&area, 1);
-    expect("sandline_signed_area", "refusal", "3 -99999");
-
-    {
-        const double ends[] = {0, 0, 3, -4};
-        put("%d", sandline_find_mid_point(ends, reals));
-        put_reals(reals, 3);
-        // oracle: mid_point 0000000000000000 0000000000000000 4008000000000000 c010000000000000
-        expect("sandline_find_mid_point", "oracle", "0 1.5,-2,-99999");
-        put("%d", sandline_find_mid_point(endless, reals));
-        put_reals(reals, 2);
-        expect("sandline_find_mid_point", "refusal", "3 -99999,-99999");
-    }
-
-    put("%d", sandline_norm(3, -4, reals));
-    put_reals(reals, 2);
-    expect("sandline_norm", "oracle", "0 5,-99999"); // norm 4008000000000000 c010000000000000
-    put("%d", sandline_norm(3, NAN, reals));
-    put_reals(reals, 1);
-    expect("sandline_norm", "refusal", "3 -99999");
-    put("%d", sandline_norm_i32(3, -4, reals));
-    put_reals(reals, 2);
-    expect("sandline_norm_i32", "oracle", "0 5,-99999"); // norm_i32 3 -4
-    put("%d", sandline_norm_i32(INT32_MIN, 0, reals));
-    put_reals(reals, 1);
-    expect("sandline_norm_i32", "refusal", "3 -99999");
-
-    put_answer(sandline_find_intersection(crossing[0], crossing[1], reals, &count));
-    put_reals(reals, 5);
-    expect("sandline_find_intersection", "01", "0 4 1,1,0.5,0.5,-99999");
-    put_answer(sandline_find_intersection(level[0], level[1], reals, &count));
-    put_reals(reals, 1);
-    // oracle: intersection of these, 0 parallel
-    expect("sandline_find_intersection", "oracle", "0 0 -99999");
-    put_answer(sandline_find_intersection(same[0], same[1], reals, &count));
-    put_reals(reals, 3);
-    expect("sandline_find_intersection", "01", "0 2 2,0,-99999"); // the midpoint of the first line
-    put_answer(sandline_find_intersection(same[0], endless, reals, &count));
-    put_reals(reals, 1);
-    expect("sandline_find_intersection", "refusal", "3 0 -99999");
-
-    {
-        const double within[] = {1, 1, 0.5, 0.5}, half[] = {1, 1, NAN, 0.5}, away[] = {1, 1, NAN, 5};
-        const double neither[] = {1, 1, NAN, NAN};
-        const double *cases[] = {within, half, away, neither, within, NULL};
-        const size_t counts[] = {4, 4, 4, 4, 2, 0}; // the last two: Coincide and Parallel
-        for (int k = 0; k < 6; k++) put("%d", sandline_outside(cases[k], counts[k]));
-        expect("sandline_outside", "01", "001000");
-        for (int k = 0; k < 6; k++) put("%d", sandline_inside(cases[k], counts[k]));
-        expect("sandline_inside", "01", "110110"); // a NaN alone never makes it outside
-        for (int k = 0; k < 6; k++) put("%d", sandline_coincide(cases[k], counts[k]));
-        expect("sandline_coincide", "01", "000110");
-    }
-}
-
-static void smoothing(void) {
-    const double square_f64[] = {0, 0, 4, 0, 4, 4, 0, 4, 0, 0};
-    const uint8_t none[] = {0, 0, 0, 0}, first[] = {1, 0, 0, 0}, all[] = {1, 1, 1, 1}, odd[] = {0, 2, 0, 0};
-    const int32_t straight[] = {0, 0, 4, 0, 8, 0};
-
-    put_answer(sandline_find_corners(square, 10, 0, 1, true, flags, 4, &count));
-    put_bytes(flags, 5);
-    expect("sandline_find_corners", "01", "0 4 1,1,1,1,238"); // (0,1) stands for 90 degrees; the last is dropped
-    put_answer(sandline_find_corners(straight, 6, 0, 1, false, flags, 3, &count));
-    put_bytes(flags, 4);
-    expect("sandline_find_corners", "01", "0 3 1,0,1,238"); // open lists flag both ends
-    put_answer(sandline_find_corners(square, 10, 0, 0, true, flags, 4, &count));
-    put_bytes(flags, 1);
-    expect("sandline_find_corners", "refusal", "7 0 238");
-    put_answer(sandline_find_corners(square, 10, 0, 1, false, flags, 4, &count));
-    put_bytes(flags, 1);
-    expect("sandline_find_corners", "refusal", "10 0 238"); // an open list needs five
-    put_answer(sandline_find_corners(NULL, 0, 0, 1, true, NULL, 0, &count));
-    expect("sandline_find_corners", "refusal", "4 0");
-
-    put_answer(sandline_subdivide_keep_corners(square_f64, 10, none, 4, 8, 1, true, reals, 18, flags, 9, &count,
-                                               &finished));
-    put(" %d", finished);
-    put_reals(reals, 19);
-    put_bytes(flags, 9);
-    // oracle: subdivide 4020000000000000 3ff0000000000000 1, the square, 0,0,0,0 as bytes, 18 9
-    expect("sandline_subdivide_keep_corners", "01 and oracle",
-           "0 9 0 0,0,2,-0.5,4,0,4.5,2,4,4,2,4.5,0,4,-0.5,2,0,0,-99999 0,0,0,0,0,0,0,0,238");
-    put_answer(sandline_subdivide_keep_corners(square_f64, 10, first, 4, 8, 1, true, reals, 18, flags, 9, &count,
-                                               &finished));
-    put(" %d", finished);
-    put_reals(reals, 4);
-    put_bytes(flags, 9);
-    // oracle: the same with 1,0,0,0
-    expect("sandline_subdivide_keep_corners", "01 and oracle", "0 9 0 0,0,2,-0.25 1,0,0,0,0,0,0,0,238");
-    put_answer(sandline_subdivide_keep_corners(square_f64, 10, all, 4, 8, 1, true, reals, 18, flags, 9, &count,
-                                               &finished));
-    put(" %d", finished);
-    put_reals(reals, 11);
-    put_bytes(flags, 5);
-    expect("sandline_subdivide_keep_corners", "01", "0 5 1 0,0,4,0,4,4,0,4,0,0,-99999 1,1,1,1,238");
-    finished = true;
-    put_answer(sandline_subdivide_keep_corners(square_f64, 10, odd, 4, 8, 1, true, reals, 18, flags, 9, &count,
-                                               &finished));
-    put(" %d", finished);
-    put_reals(reals, 1);
-    put_bytes(flags, 1);
-    expect("sandline_subdivide_keep_corners", "refusal", "6 0 1 -99999 238");
-    put_answer(sandline_subdivide_keep_corners(square_f64, 10, none, 4, 0.5, 1, true, reals, 17, flags, 9, &count,
-                                               &finished));
-    expect("sandline_subdivide_keep_corners", "refusal", "7 0"); // before 10
-    put_answer(sandline_subdivide_keep_corners(square_f64, 10, none, 4, 8, 1, true, reals, 18, flags, 8, &count,
-                                               &finished));
-    put(" %d", finished);
-    put_reals(reals, 1);
-    put_bytes(flags, 1);
-    expect("sandline_subdivide_keep_corners", "refusal", "10 0 0 -99999 238");
-    put_answer(sandline_subdivide_keep_corners(NULL, 0, NULL, 0, 8, 1, false, NULL, 0, NULL, 0, &count, &finished));
-    put(" %d", finished);
-    // oracle: subdivide 4020000000000000 3ff0000000000000 0 - - 0 0
-    expect("sandline_subdivide_keep_corners", "oracle", "0 0 1");
-}
-
-static void put_spiral(const sandline_spiral_walker *s) {
-    put(" %d %d %d %d %d %d %d %zu %zu", (int)s->x, (int)s->y, (int)s->dir, (int)s->gx, (int)s->gy, (int)s->sq,
-        (int)s->cc, s->area, s->step);
-}
-
-static void spirals(void) {
-    sandline_spiral_walker s;
-    memset(&s, 0, sizeof s);
-
-    put("%d", sandline_spiral(513, &s));
-    put_spiral(&s);
-    expect("sandline_spiral", "refusal", "1 0 0 0 0 0 0 0 0 0");
-    put("%d", sandline_spiral(2, &s));
-    put_spiral(&s);
-    expect("sandline_spiral", "oracle", "0 0 0 0 1 0 1 0 4 0"); // spiral 2
-
-    for (int k = 0; k < 4; k++) {
-        static const char *const places[] = {"0 1 0,0", "0 1 1,0", "0 1 1,1", "0 1 0,1"};
-        put_answer(sandline_spiral_advance(&s, place, &count));
-        put_values(place, 2);
-        expect("sandline_spiral_advance", "01, P12", places[k]);
-    }
-    put_answer(sandline_spiral_advance(&s, place, &count));
-    put_values(place, 2);
-    expect("sandline_spiral_advance", "01, P12", "0 0 -99999,-99999"); // the end
-
-    s.dir = 4;
-    s.area = 262144;
-    s.step = 7;
-    {
-        const sandline_spiral_walker old = s;
-        put_answer(sandline_spiral_advance(&s, place, &count));
-        put_values(place, 2);
-        put(" %d", s.x == old.x && s.y == old.y && s.dir == old.dir && s.gx == old.gx && s.gy == old.gy
-                       && s.sq == old.sq && s.cc == old.cc && s.area == old.area && s.step == old.step);
-    }
-    expect("sandline_spiral_advance", "refusal", "1 0 -99999,-99999 1"); // it leaves the state as it came
 }
 
 static void frame(const char *words, size_t room, size_t at) {
@@ -572,12 +578,14 @@ int main(void) {
     fill();
     charts();
     walks();
-    pictures();
-    outlines();
-    zooms();
-    geometry();
-    smoothing();
     spirals();
+    pictures();
+    geometry();
+    simplification();
+    corners();
+    smoothing();
+    zooms();
+    square_roots();
     frames();
     example();
     picture_example();

@@ -1,6 +1,6 @@
 // Answers cases in the oracle's text form (oracle/README.md, "The text form") by the calls of sandline.h: a case a
 // line on standard input, an answer a line on standard output. So the lists that the original Rust has answered,
-// crates/NAME_cases, can be replayed through C, and `OURS=.. oracle/compare NAME COUNT SEED` can compare more.
+// crates/cases, can be replayed through C, and `OURS=.. oracle/compare NAME COUNT SEED` can compare more.
 // With the argument `frames` each line is a frame.
 //
 // Every lent buffer has exactly the room that the case says, between places that no call may write; a buffer without

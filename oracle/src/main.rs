@@ -1,5 +1,6 @@
 //! The test oracle: answers cases as the Rust does, makes cases, and compares. See README.md.
 
+mod all;
 mod chart;
 mod compare;
 mod document;
@@ -37,6 +38,8 @@ const STACK: usize = 1 << 28;
 #[derive(Clone, Copy)]
 pub struct Subject {
     name: &'static str,
+    /// The words that its cases begin with. No two subjects share one; a frame has none.
+    calls: &'static [&'static str],
     /// Answers a case, or says `None` where the line is no case.
     answer: fn(&mut Words, &mut Line) -> Option<()>,
     /// Writes the next case of a generated list, given its place in the list.
@@ -46,9 +49,10 @@ pub struct Subject {
 }
 
 macro_rules! subject {
-    ($name:ident) => {
+    ($name:ident, [$($call:ident),*]) => {
         Subject {
             name: stringify!($name),
+            calls: &[$(stringify!($call)),*],
             answer: $name::answer,
             make: $name::make::make,
             fixed: $name::fixed::fixed,
@@ -57,21 +61,28 @@ macro_rules! subject {
 }
 
 const SUBJECTS: [Subject; 10] = [
-    subject!(sqrt),
-    subject!(point),
-    subject!(chart),
-    subject!(walker),
-    subject!(reduce),
-    subject!(simplify),
-    subject!(frames),
-    subject!(util),
-    subject!(smooth),
-    subject!(pbm),
+    subject!(sqrt, [sqrt_bits, sqrt]),
+    subject!(point, [points, points_f64, tolerance, sq_tolerance]),
+    subject!(chart, [pixel, area, first_start]),
+    subject!(walker, [walk, spiral, spiral_step]),
+    subject!(reduce, [radial, douglas_peucker, reduce, numbers, zoom]),
+    subject!(simplify, [remove_staircase, limit_penalties, simplify]),
+    subject!(frames, []),
+    subject!(util, [signed_area, norm, norm_i32, mid_point, intersection, ratios]),
+    subject!(smooth, [corners, subdivide]),
+    subject!(pbm, [read_pbm, write_pbm]),
 ];
+
+const ALL: Subject =
+    Subject { name: "all", calls: &[], answer: all::answer, make: all::make, fixed: all::fixed };
 
 impl Subject {
     fn named(name: &str) -> Option<Subject> {
-        SUBJECTS.into_iter().find(|subject| subject.name == name)
+        SUBJECTS.into_iter().chain([ALL]).find(|subject| subject.name == name)
+    }
+
+    fn has_call(&self, word: &[u8]) -> bool {
+        self.calls.iter().any(|call| call.as_bytes() == word)
     }
 
     /// Puts the answer to `line` at the end of `text`.

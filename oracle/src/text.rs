@@ -12,6 +12,7 @@ pub const MOST_ROOM: usize = 65_536;
 
 /// The words of a line, read from the left. Each reader answers `None` where there is no word or
 /// it is not of the form.
+#[derive(Clone)]
 pub struct Words<'a> {
     rest: Option<&'a [u8]>,
 }

@@ -5,7 +5,8 @@ use crate::{held, panics, Subject};
 use std::collections::BTreeMap;
 use std::io;
 
-/// Prints for each call how many of its cases tell, and ends. A panic tells too.
+/// Prints for each call of a subject how many of its cases tell, and ends. A panic tells too. Lines of other subjects may
+/// stand between them.
 pub fn told(subject: Subject, cases: &str, answers: &str) -> io::Result<()> {
     held::let_go();
     let (cases, answers) = (std::fs::read(cases)?, std::fs::read(answers)?);
@@ -14,6 +15,9 @@ pub fn told(subject: Subject, cases: &str, answers: &str) -> io::Result<()> {
     let mut told: BTreeMap<String, u64> = BTreeMap::new();
     let mut text = Vec::new();
     for (case, expected) in cases.split(is_end).zip(answers.split(is_end)) {
+        if !subject.calls.is_empty() && !subject.has_call(first_word(case)) {
+            continue;
+        }
         text.clear();
         let answered = panics::caught(|| subject.answer_line(case, &mut text));
         if answered.is_err() {
@@ -33,9 +37,13 @@ fn is_end(b: &u8) -> bool {
     *b == b'\n'
 }
 
+fn first_word(case: &[u8]) -> &[u8] {
+    case.split(|&b| b == b' ').next().unwrap_or(case)
+}
+
 /// The first word; of a frame its kind.
 fn call(subject: Subject, case: &[u8]) -> String {
-    let word = case.split(|&b| b == b' ').next().unwrap_or(case);
+    let word = first_word(case);
     let word = if subject.name == "frames" { &word[..word.len().min(2)] } else { word };
     String::from_utf8_lossy(word).into_owned()
 }

@@ -44,32 +44,35 @@
 //! dependencies and does without the standard library.
 //!
 //! The repository's include/sandline.h says what stack each call takes. [`numbers`],
-//! [`simplify_douglas_peucker`] and [`reduce`] call themselves, at worst as deep as the list is long.
+//! [`simplify_douglas_peucker`] and [`reduce()`] call themselves, at worst as deep as the list is long.
 #![no_std]
 #![warn(missing_docs)]
 
-mod charts;
+mod chart;
+mod corners;
 mod frames;
-mod geometry;
-mod outlines;
-mod pictures;
+mod pbm;
 mod raw;
+mod reduce;
 mod refusal;
-mod smoothing;
-mod spirals;
-mod zooms;
+mod simplify;
+mod smooth;
+mod spiral;
+mod sqrt;
+mod util;
+mod walker;
 
-pub use charts::Chart;
+pub use chart::Chart;
+pub use corners::{find_corners, Pair};
 pub use frames::answer;
-pub use geometry::{
-    find_intersection, find_mid_point, norm, norm_i32, signed_area, sqrt, sqrt_bits, Intersection,
-};
-pub use outlines::{limit_penalties, remove_staircase, simplify};
-pub use pictures::{read_pbm, write_pbm, Picture};
+pub use pbm::{read_pbm, write_pbm, Picture};
+pub use reduce::{numbers, reduce, simplify_douglas_peucker, simplify_radial_dist, zoom};
 pub use refusal::Refusal;
-pub use smoothing::{find_corners, subdivide_keep_corners, Pair, Settings, Subdivided};
-pub use spirals::Spiral;
-pub use zooms::{numbers, reduce, simplify_douglas_peucker, simplify_radial_dist, zoom};
+pub use simplify::{limit_penalties, remove_staircase, simplify};
+pub use smooth::{subdivide_keep_corners, Settings, Subdivided};
+pub use spiral::Spiral;
+pub use sqrt::{sqrt, sqrt_bits};
+pub use util::{find_intersection, find_mid_point, norm, norm_i32, signed_area, Intersection};
 
 /// A point of a chart or an outline: x and y, in pixels, y down.
 pub type Point = [i32; 2];

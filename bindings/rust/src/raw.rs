@@ -1,4 +1,4 @@
-//! The calls of include/sandline.h, which says what each does and what its caller owes.
+//! The calls of include/sandline.h, in its order. It says what each does and what its caller owes.
 //!
 //! A slice goes as a pointer and its length in elements. A slice of Rust is aligned, as long as it says, and
 //! shares no byte with another one that may be written: that is what the calls ask for.
@@ -6,6 +6,7 @@
 use crate::Spiral;
 
 extern "C" {
+    // Charts: a pixel, the area, and where a walk may begin.
     pub fn sandline_pixel(
         width: usize,
         height: usize,
@@ -28,6 +29,8 @@ extern "C" {
         bytes: usize,
         start: *mut [i32; 2],
     ) -> u8;
+
+    // Walks along the outline of what is set.
     pub fn sandline_walk(
         width: usize,
         height: usize,
@@ -41,6 +44,15 @@ extern "C" {
         count: *mut usize,
     ) -> u8;
 
+    // Spirals: a square of pixels, one by one from its centre outwards.
+    pub fn sandline_spiral(size: usize, spiral: *mut Spiral) -> u8;
+    pub fn sandline_spiral_advance(
+        spiral: *mut Spiral,
+        place: *mut [i32; 2],
+        count: *mut usize,
+    ) -> u8;
+
+    // Pictures: charts out of Netpbm's PBM files, and into them.
     pub fn sandline_read_pbm(
         file: *const u8,
         length: usize,
@@ -60,6 +72,22 @@ extern "C" {
         count: *mut usize,
     ) -> u8;
 
+    // Geometry: areas, midpoints, lengths, and where two lines cross.
+    pub fn sandline_signed_area(points: *const [i32; 6], area: *mut i32) -> u8;
+    pub fn sandline_find_mid_point(points: *const [f64; 4], middle: *mut [f64; 2]) -> u8;
+    pub fn sandline_norm(x: f64, y: f64, length: *mut f64) -> u8;
+    pub fn sandline_norm_i32(x: i32, y: i32, length: *mut f64) -> u8;
+    pub fn sandline_find_intersection(
+        first: *const [f64; 4],
+        second: *const [f64; 4],
+        values: *mut [f64; 4],
+        count: *mut usize,
+    ) -> u8;
+    pub fn sandline_outside(values: *const f64, count: usize) -> bool;
+    pub fn sandline_inside(values: *const f64, count: usize) -> bool;
+    pub fn sandline_coincide(values: *const f64, count: usize) -> bool;
+
+    // Simplification: an outline without staircases, and without the points that cost little.
     pub fn sandline_remove_staircase(
         points: *const i32,
         length: usize,
@@ -84,6 +112,36 @@ extern "C" {
         count: *mut usize,
     ) -> u8;
 
+    // Corners: where an outline turns.
+    pub fn sandline_find_corners(
+        points: *const i32,
+        length: usize,
+        c: i32,
+        s: i32,
+        closed: bool,
+        flags: *mut u8,
+        room: usize,
+        count: *mut usize,
+    ) -> u8;
+
+    // Smoothing: one round of subdivision.
+    pub fn sandline_subdivide_keep_corners(
+        points: *const f64,
+        points_length: usize,
+        corners: *const u8,
+        corners_length: usize,
+        ratio: f64,
+        length: f64,
+        closed: bool,
+        out: *mut f64,
+        room: usize,
+        flags: *mut u8,
+        flag_room: usize,
+        count: *mut usize,
+        finished: *mut bool,
+    ) -> u8;
+
+    // Zooms: fewer points, the wider the tolerance.
     pub fn sandline_simplify_radial_dist(
         points: *const i32,
         length: usize,
@@ -132,55 +190,11 @@ extern "C" {
         count: *mut usize,
     ) -> u8;
 
+    // Square roots.
     pub fn sandline_sqrt(x: f64) -> f64;
     pub fn sandline_sqrt_bits(bits: u64) -> u64;
-    pub fn sandline_signed_area(points: *const [i32; 6], area: *mut i32) -> u8;
-    pub fn sandline_find_mid_point(points: *const [f64; 4], middle: *mut [f64; 2]) -> u8;
-    pub fn sandline_norm(x: f64, y: f64, length: *mut f64) -> u8;
-    pub fn sandline_norm_i32(x: i32, y: i32, length: *mut f64) -> u8;
-    pub fn sandline_find_intersection(
-        first: *const [f64; 4],
-        second: *const [f64; 4],
-        values: *mut [f64; 4],
-        count: *mut usize,
-    ) -> u8;
-    pub fn sandline_outside(values: *const f64, count: usize) -> bool;
-    pub fn sandline_inside(values: *const f64, count: usize) -> bool;
-    pub fn sandline_coincide(values: *const f64, count: usize) -> bool;
 
-    pub fn sandline_find_corners(
-        points: *const i32,
-        length: usize,
-        c: i32,
-        s: i32,
-        closed: bool,
-        flags: *mut u8,
-        room: usize,
-        count: *mut usize,
-    ) -> u8;
-    pub fn sandline_subdivide_keep_corners(
-        points: *const f64,
-        points_length: usize,
-        corners: *const u8,
-        corners_length: usize,
-        ratio: f64,
-        length: f64,
-        closed: bool,
-        out: *mut f64,
-        room: usize,
-        flags: *mut u8,
-        flag_room: usize,
-        count: *mut usize,
-        finished: *mut bool,
-    ) -> u8;
-
-    pub fn sandline_spiral(size: usize, spiral: *mut Spiral) -> u8;
-    pub fn sandline_spiral_advance(
-        spiral: *mut Spiral,
-        place: *mut [i32; 2],
-        count: *mut usize,
-    ) -> u8;
-
+    // Frames: a call as a line of hexadecimal digits.
     pub fn sandline_answer(
         line: *const u8,
         length: usize,

@@ -1,5 +1,6 @@
-// A double and its 64 bits. The language leaves both ways open at a NaN; here a NaN has one pattern
-// of its own, and every NaN pattern is read as the one NaN.
+// A double and its 64 bits, for whoever works on the bits or hands them on: the square root and the
+// frames. The language leaves both ways open at a NaN; here a NaN has one pattern of its own, and every
+// NaN pattern is read as the one NaN.
 //
 // Nothing here fails, for any of the 2^64 patterns or any f64.
 ghost use mathlib.Core.Path.{_≡_};

@@ -6,7 +6,7 @@ use native.Mathlib.Omega.{arith}
 use lib.IntN.{ℤ, pos, _-ℤ_}
 use Rattle.chart.specs.declared.Chart.{Chart}
 use Rattle.chart.specs.Pixels.{pixelAt, one, aroundOf}
-use Rattle.chart.proofs.Places.{one-le}
+use Rattle.chart.proofs.BitPlaces.{one-le}
 
 abbrev Digits : ℕ → ℕ → ℕ → ℕ → ℕ → Type 0
 Digits n a b c d = (n < 16) × (n / 8 % 2 ≡ a) × (n / 4 % 2 ≡ b) × (n / 2 % 2 ≡ c) × (n % 2 ≡ d)

@@ -10,7 +10,7 @@ use lib.Signed.{leZ, ltZ}
 use borrow.Author.Tests.{ltb-true, leb-true, le-leb, le-ltb}
 use Rattle.laws.proofs.Integers.{subℕ-cases}
 use Rattle.chart.specs.declared.Chart.{Chart}
-use Rattle.chart.specs.Pixels.{inside, pixelAt, aroundOf}
+use Rattle.chart.specs.Pixels.{hasPixel, pixelAt, aroundOf}
 
 -- one step left or up
 pub minus-one : (n : ℕ) → 1 ≤ n → pos n -ℤ pos 1 ≡ pos (n - 1)
@@ -28,18 +28,18 @@ module _ (c : Chart) (pixels : List ℕ) where
   above (pos m) (negsuc n) s = refl
   above (negsuc m) (negsuc n) s = refl
 
-  outside : (x y : ℕ) → inside c x y ≡ false → pixelAt c pixels (pos x) (pos y) ≡ false
+  outside : (x y : ℕ) → hasPixel c x y ≡ false → pixelAt c pixels (pos x) (pos y) ≡ false
   unfolding pixelAt
   outside x y e = rw e
 
   pub right-of : (x y : ℤ) → leZ (pos (c .width)) x ≡ true → pixelAt c pixels x y ≡ false
-  unfolding pixelAt inside
+  unfolding pixelAt hasPixel
   right-of (pos m) (pos n) s = outside m n (rw (le-ltb m (c .width) (leb-true _ _ s), and-false (leb (c .width) 512)))
   right-of (pos m) (negsuc n) s = refl
   right-of (negsuc m) y s = refl
 
   pub below : (x y : ℤ) → leZ (pos (c .height)) y ≡ true → pixelAt c pixels x y ≡ false
-  unfolding pixelAt inside
+  unfolding pixelAt hasPixel
   below (pos m) (pos n) s = outside m n (rw (le-ltb n (c .height) (leb-true _ _ s)) (and-false (leb (c .width) 512 && ltb m (c .width))))
   below (pos m) (negsuc n) s = absurd (let z : _≡_ {A = ℕ} 0 1 = cc in omega arith)
   below (negsuc m) y s = refl

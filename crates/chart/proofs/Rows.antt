@@ -1,6 +1,6 @@
 -- A row of a good chart: its bytes are there, its pixels are their bits, and they are counted byte by byte. Assumes nothing.
 use Prim.Native.Nat.{ℕ, zero, suc, _+_, _-_, _*_, _/_, _%_, _^_, _≤_, _<_}
-use mathlib.Core.Bool.{Bool, false, not, _||_}
+use mathlib.Core.Bool.{Bool, false}
 use mathlib.Core.List.{List}
 use mathlib.Core.Path.{_≡_, refl, sym, ap, _∙_}
 use native.Mathlib.Nat.{mul-le-mul, mul-le-mul-right, suc-mul, mul-comm, le-refl, add-zero}
@@ -10,27 +10,23 @@ use mir.Val.{Fits}
 use lib.ListN.{length, getD}
 use borrow.Author.Tests.{ltb-false}
 use Rattle.laws.proofs.Joined.{both-false}
-use Rattle.laws.specs.Bits.{setBits}
+use Rattle.laws.specs.inside.Bits.{setBits}
 use Rattle.laws.proofs.Bits.{setBits-le, setBits-next}
 use Rattle.chart.specs.declared.Chart.{Chart}
-use Rattle.chart.specs.Pixels.{side, rowBytes, badChart, Good, bitOf, cell, one}
+use Rattle.chart.specs.Pixels.{badSides, badChart, rowBytes, bitOf, cell, one}
+use Rattle.chart.specs.inside.Rows.{Good}
 use Rattle.chart.specs.Area.{rowArea, rowsArea}
-use Rattle.chart.proofs.Digits.{digit}
-use Rattle.chart.proofs.Places.{one-le}
-use Rattle.chart.proofs.Sizes.{side-most}
+use Rattle.chart.proofs.OneByte.{digit}
+use Rattle.chart.proofs.BitPlaces.{one-le}
+use Rattle.chart.proofs.Sizes.{width-within, height-within}
 
 -- ---- what is not refused is good
 
 pub good : (c : Chart) (pixels : List ℕ) (r : Bool) → r ≡ badChart c pixels → r ≡ false → Good c pixels
 unfolding badChart
 good c pixels r says fine =
-    let p = both-false (not (side (c .width)) || not (side (c .height))) _ (sym says ∙ fine) in
-    let q = both-false (not (side (c .width))) (not (side (c .height))) (p .0) in
-    record {
-      wide = side-most (c .width) (side (c .width)) refl (q .0);
-      high = side-most (c .height) (side (c .height)) refl (q .1);
-      enough = ltb-false _ _ (p .1);
-    }
+    let p = both-false (badSides c) _ (sym says ∙ fine) in
+    record { wide = width-within c (p .0) .1; high = height-within c (p .0) .1; enough = ltb-false _ _ (p .1) }
 
 -- ---- a row's bytes
 

@@ -1,39 +1,23 @@
 -- Document 01: "First start (added): the top left corner of the first set pixel, row by row; a blank chart gives NoWay."
-use Prim.Native.Nat.{ℕ, zero, suc, _≤_, _<_}
-use mathlib.Core.Path.{_≡_}
-use mathlib.Core.Bool.{Bool, true, false}
+use Prim.Native.Nat.{ℕ, zero, suc}
+use mathlib.Core.Bool.{true, false}
 use mathlib.Core.List.{List}
 use mathlib.Core.Option.{Option, some, none}
-use lib.Dec.{ltb}
 use lib.IntN.{pos}
 use Rattle.point.specs.Refusals.{refuse_when_or_}
 use Rattle.point.specs.declared.PointI32.{PointI32}
 use Rattle.point.specs.declared.refusal.Refusal.{Refusal}
 use Rattle.point.specs.declared.refusal.Refusal.the-variants.{BadSize}
-use Rattle.chart.specs.Pixels.{bitOf, cell, badChart}
+use Rattle.chart.specs.Pixels.{cell, badChart}
 use Rattle.chart.specs.declared.Chart.{Chart}
 use Rattle.chart.specs.declared.Start.{Start}
 use Rattle.chart.specs.declared.Start.the-variants.{At, NoWay, Refused}
-
-abbrev pub pointIf : Bool → PointI32 → Option PointI32
-pointIf true p = some p
-pointIf false p = none
 
 -- the first set one among n pixels of row y, from column x on
 unfoldable pub firstInRow : Chart → List ℕ → ℕ → ℕ → ℕ → Option PointI32
 unfolding cell
 firstInRow c pixels x y zero = none
 firstInRow c pixels x y (suc n) = elim (cell c pixels x y) [ true ↦ some (record { x = pos x; y = pos y }) | false ↦ firstInRow c pixels (suc x) y n ]
-
--- the point in column x of row y, or none where x is past the last column
-unfoldable pub columnOf : Chart → ℕ → ℕ → Option PointI32
-columnOf c x y = pointIf (ltb x (c .width)) (record { x = pos x; y = pos y })
-
--- r is the column of a byte's first set pixel, or 8 where it has none
-pub record FirstBit (byte r : ℕ) : Type 0 where
-  pub few : r ≤ 8
-  pub clear : (j : ℕ) → j < r → bitOf byte j ≡ false
-  pub set : r < 8 → bitOf byte r ≡ true
 
 -- the first of a row, or else what comes after it
 abbrev pub orElse : Option PointI32 → Option PointI32 → Option PointI32

@@ -1,10 +1,10 @@
 // Where a walk of a chart may begin.
-ghost use mathlib.Core.Path.{_≡_};
 ghost use Prim.Native.Nat.{_<_};
-ghost use Rattle.chart.specs.Pixels.{Good};
+ghost use mathlib.Core.Path.{_≡_};
 ghost use lib.IntN.{pos};
+ghost use Rattle.chart.specs.Start.{firstStart, firstInRow};
+ghost use Rattle.chart.specs.inside.Rows.{Good, columnOf, FirstBit};
 ghost use Rattle.chart.specs.declared.Start.the-variants.{At};
-ghost use Rattle.chart.specs.Start.{firstStart, firstInRow, columnOf, FirstBit};
 use crate::Chart;
 use crate::Start;
 use crate::pixels::bad_chart;

@@ -1,9 +1,9 @@
 // How much of a chart is set: the bits of each row's bytes, the last byte's padding masked off.
-ghost use mathlib.Core.Path.{_≡_};
 ghost use Prim.Native.Nat.{_≤_, _<_, _-_, _/_, _^_};
-ghost use Rattle.laws.specs.Bits.{setBits};
-ghost use Rattle.chart.specs.Pixels.{Good};
+ghost use mathlib.Core.Path.{_≡_};
+ghost use Rattle.laws.specs.inside.Bits.{setBits};
 ghost use Rattle.chart.specs.Area.{areaOf, rowArea};
+ghost use Rattle.chart.specs.inside.Rows.{Good};
 use crate::Cells;
 use crate::Chart;
 use crate::pixels::bad_chart;

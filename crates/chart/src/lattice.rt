@@ -6,9 +6,10 @@ ghost use Prim.Native.Nat.{_+_, _-_, _*_, _/_, _≤_, _<_};
 ghost use lib.IntN.{pos};
 ghost use lib.ListN.{length};
 ghost use lib.Signed.{ltZ};
-ghost use Rattle.chart.specs.Pixels.{bitAt, one, pairOf, aroundOf, surrounded};
+ghost use Rattle.chart.specs.Pixels.{one, aroundOf};
+ghost use Rattle.chart.specs.inside.Around.{bitAt, pairOf, surrounded};
 use crate::Chart;
-use crate::pixels::inside;
+use crate::pixels::has_pixel;
 use crate::pixels::pixel;
 use crate::pixels::row_bytes;
 
@@ -39,7 +40,7 @@ fn surrounded(chart: Chart, pixels: &[u8], column: usize, row: usize) -> bool
     if row < 1 {
         return false;
     }
-    if !inside(chart, column, row) {
+    if !has_pixel(chart, column, row) {
         return false;
     }
     let stride = row_bytes(chart.width) * 8;

@@ -1,8 +1,9 @@
-// Pixels of a lent bitmap: lookup, the four around a lattice point, area, and where a walk may begin.
+// Charts, for whoever draws an outline or reads a survey: single pixels, the four around a lattice point,
+// the area, and where a walk may begin.
 //
 // A chart is 1 to 512 pixels wide and high. Its pixels are lent beside it as bytes: rows from the
 // top, each padded to whole bytes, the leftmost pixel the highest bit. Padding changes no answer, nor
-// do bytes behind the last row (proved in walker/proofs/Padding).
+// do bytes behind the last row (proved in proofs/Padding).
 //
 // Each call is total and writes nothing.
 mod begin;
@@ -15,11 +16,11 @@ ghost use Rattle.chart.specs.Answers.{cellsNumber, cellsCount, startNumb
 pub use begin::first_start;
 pub use counting::area;
 pub use lattice::around;
+pub use pixels::all_bytes;
 pub use pixels::bad_chart;
-pub use pixels::inside;
+pub use pixels::bad_sides;
 pub use pixels::pixel;
 pub use pixels::row_bytes;
-pub use pixels::side;
 use point::PointI32;
 use point::Refusal;
 

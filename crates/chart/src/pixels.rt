@@ -1,8 +1,8 @@
 // Single pixels, by shift and mask on the row's bytes.
 ghost use mathlib.Core.Path.{_≡_};
-ghost use Prim.Native.Nat.{_*_, _≤_, _<_};
+ghost use Prim.Native.Nat.{_<_};
 ghost use lib.IntN.{pos};
-ghost use Rattle.chart.specs.Pixels.{side, badChart, rowBytes, inside, pixelAt};
+ghost use Rattle.chart.specs.Pixels.{side, badSides, badChart, bytesAsked, rowBytes, hasPixel, pixelAt};
 use crate::Chart;
 
 // The widest and the highest that a chart may be.
@@ -12,27 +12,33 @@ const LONGEST: usize = 512;
 pub fn bad_chart(chart: Chart, pixels: &[u8]) -> bool
     ensures { λ r. ⌜ r ≡ badChart chart (now (pixels .entry)) ⌝ }
 {
-    if !side(chart.width) {
-        return true;
-    }
-    if !side(chart.height) {
+    if bad_sides(chart) {
         return true;
     }
     pixels.len() < all_bytes(chart)
 }
 
+// Whether a chart's size is out of range.
+pub fn bad_sides(chart: Chart) -> bool
+    ensures { λ r. ⌜ r ≡ badSides chart ⌝ }
+{
+    !(side(chart.width) & side(chart.height))
+}
+
 // Whether a chart may be so wide, or so high.
-pub fn side(size: usize) -> bool
+fn side(size: usize) -> bool
     ensures { λ r. ⌜ r ≡ side size ⌝ }
 {
     1 <= size && size <= LONGEST
 }
 
-// How many bytes a chart takes.
-fn all_bytes(chart: Chart) -> usize
-    requires { ⌜ (chart .width ≤ 512) × (chart .height ≤ 512) ⌝ }
-    ensures { λ r. ⌜ r ≡ rowBytes (chart .width) * chart .height ⌝ }
+// How many bytes a chart asks for: none where its size is out of range.
+pub fn all_bytes(chart: Chart) -> usize
+    ensures { λ r. ⌜ r ≡ bytesAsked chart ⌝ }
 {
+    if bad_sides(chart) {
+        return 0;
+    }
     row_bytes(chart.width) * chart.height
 }
 
@@ -58,7 +64,7 @@ fn pixel_in(chart: Chart, pixels: &[u8], column: usize, row: usize) -> bool
     requires { ⌜ row < 2147483648 ⌝ }
     ensures { λ r. ⌜ r ≡ pixelAt chart (now (pixels .entry)) (pos column) (pos row) ⌝ }
 {
-    if !inside(chart, column, row) {
+    if !has_pixel(chart, column, row) {
         return false;
     }
     let at = row * row_bytes(chart.width) + column / 8;
@@ -69,8 +75,8 @@ fn pixel_in(chart: Chart, pixels: &[u8], column: usize, row: usize) -> bool
 }
 
 // Whether a chart that is not too wide has a pixel there.
-pub fn inside(chart: Chart, column: usize, row: usize) -> bool
-    ensures { λ r. ⌜ r ≡ inside chart column row ⌝ }
+pub(crate) fn has_pixel(chart: Chart, column: usize, row: usize) -> bool
+    ensures { λ r. ⌜ r ≡ hasPixel chart column row ⌝ }
 {
     if LONGEST < chart.width {
         return false;

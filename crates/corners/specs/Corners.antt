@@ -8,7 +8,7 @@ use lib.IntN.{ℤ, pos, natAbs, _+ℤ_, _-ℤ_, _*ℤ_}
 use lib.Signed.{leZ}
 use Rattle.laws.specs.If.{if_then_else_}
 use Rattle.point.specs.declared.PointI32.{PointI32}
-use Rattle.point.specs.Points.{count, pointAt}
+use Rattle.point.specs.Points.{count, seen, pointAt}
 use Rattle.util.specs.Area.{crossOf}
 use Rattle.corners.specs.declared.Pair.{Pair}
 
@@ -61,10 +61,7 @@ unfolding isCorner
 flagsFrom list pair closed m i zero = []
 flagsFrom list pair closed m i (suc n) = flag (isCorner list pair closed m i) ∷ flagsFrom list pair closed m (suc i) n
 
--- how many points are looked at: "closed lists drop the last point unseen"
-abbrev pub seen : List ℤ → Bool → ℕ
-seen list closed = if closed then count list - 1 else count list
-
+-- the flags of a list, one for each point that is looked at
 unfoldable pub cornersOf : List ℤ → Pair → Bool → List ℕ
 unfolding flagsFrom
-cornersOf list pair closed = flagsFrom list pair closed (seen list closed) 0 (seen list closed)
+cornersOf list pair closed = flagsFrom list pair closed (seen (count list) closed) 0 (seen (count list) closed)

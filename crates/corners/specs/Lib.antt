@@ -1,5 +1,6 @@
--- What the crate promises: `Corners` says what a corner is, `Calls` what the call answers. `Sizes` is what its parts ask of their numbers.
+-- specs/ is all that you have to believe. Corners says what a corner is; read it first. Calls says what the call refuses, what it answers and
+-- what the lent flags then hold. Nobody need believe inside.
 pub mod Corners
 pub mod Calls
-pub mod Sizes
+pub mod inside
 pub mod Examples

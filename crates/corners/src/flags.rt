@@ -1,5 +1,5 @@
 // The flags of a list.
-ghost use Prim.Native.Nat.{_-_, _≤_, _<_};
+ghost use Prim.Native.Nat.{_≤_, _<_};
 ghost use mathlib.Core.Bool.{false, not, _&&_};
 ghost use mathlib.Core.Path.{_≡_};
 ghost use lib.IntN.{pos};
@@ -7,10 +7,10 @@ ghost use lib.ListN.{length};
 ghost use lib.Signed.{leZ};
 ghost use Rattle.laws.specs.Lists.{over};
 ghost use Rattle.point.specs.Limits.{badPoints};
-ghost use Rattle.laws.specs.If.{if_then_else_};
-ghost use Rattle.corners.specs.Corners.{isEnd, isCorner, flag, seen, cornersOf};
+ghost use Rattle.point.specs.Points.{count, seen};
+ghost use Rattle.corners.specs.Corners.{isEnd, isCorner, flag, cornersOf};
 ghost use Rattle.corners.specs.Calls.{fair, findCornersOf};
-ghost use Rattle.corners.specs.Sizes.{Moderate};
+ghost use Rattle.corners.specs.inside.Sizes.{Moderate};
 use crate::Pair;
 use crate::turns::is_sharp;
 use point::Answer;
@@ -19,7 +19,7 @@ use point::Refusal;
 // Puts a flag for each point at the start of `flags`, and answers how many those are. Of a closed list
 // the last point, which repeats the first, has none.
 pub fn find_corners(points: &[i32], pair: Pair, closed: bool, flags: &mut [u8]) -> Answer
-    ensures { λ r. ⌜ record { answer = r; flags = now (flags .exit) }
+    ensures { λ r. ⌜ record { answer = r; out = now (flags .exit) }
         ≡ findCornersOf (now (points .entry)) pair closed (now (flags .entry)) ⌝ }
 {
     let n = points.len() / 2;
@@ -35,7 +35,7 @@ pub fn find_corners(points: &[i32], pair: Pair, closed: bool, flags: &mut [u8]) 
     if !fair(pair) {
         return Answer::Refused(Refusal::BadSettings);
     }
-    let m = seen(n, closed);
+    let m = point::seen(n, closed);
     if flags.len() < m {
         return Answer::Refused(Refusal::NoRoom);
     }
@@ -43,23 +43,15 @@ pub fn find_corners(points: &[i32], pair: Pair, closed: bool, flags: &mut [u8]) 
     Answer::Done(m)
 }
 
-// How many of `n` points are looked at.
-fn seen(n: usize, closed: bool) -> usize
-    requires { ⌜ 0 < n ⌝ }
-    ensures { λ r. ⌜ r ≡ (if closed then n - 1 else n) ⌝ }
-{
-    if closed { n - 1 } else { n }
-}
-
 // Whether a pair is in range.
 fn fair(pair: Pair) -> bool
     ensures { λ r. ⌜ r ≡ fair pair ⌝ }
 {
-    within(-1000, pair.c) && within(1, pair.s)
+    up_to_1000(-1000, pair.c) && up_to_1000(1, pair.s)
 }
 
 // From `low` to 1,000, both counted in.
-fn within(low: i32, v: i32) -> bool
+fn up_to_1000(low: i32, v: i32) -> bool
     ensures { λ r. ⌜ r ≡ (leZ low v && leZ v (pos 1000)) ⌝ }
 {
     low <= v && v <= 1000
@@ -67,7 +59,7 @@ fn within(low: i32, v: i32) -> bool
 
 // Writes the flags of the first `m` points.
 fn write(points: &[i32], pair: Pair, closed: bool, m: usize, flags: &mut [u8])
-    requires { ⌜ (badPoints (now points) ≡ false) × Moderate pair × (m ≡ seen (now points) closed) × (m ≤ length (now flags)) ⌝ }
+    requires { ⌜ (badPoints (now points) ≡ false) × Moderate pair × (m ≡ seen (count (now points)) closed) × (m ≤ length (now flags)) ⌝ }
     ensures { λ _. ⌜ now (flags .exit) ≡ over (cornersOf (now (points .entry)) pair closed) (now (flags .entry)) ⌝ }
 {
     let mut i = 0;
@@ -78,6 +70,7 @@ fn write(points: &[i32], pair: Pair, closed: bool, m: usize, flags: &mut [u8])
     }
 }
 
+// The flag of a corner, or of none.
 fn flag(corner: bool) -> u8
     ensures { λ r. ⌜ r ≡ flag corner ⌝ }
 {
@@ -103,6 +96,7 @@ fn is_open_end(closed: bool, m: usize, i: usize) -> bool
     !closed && is_end(m, i)
 }
 
+// Whether a position of the first `m` is at an end.
 fn is_end(m: usize, i: usize) -> bool
     requires { ⌜ i < m ⌝ }
     ensures { λ r. ⌜ r ≡ isEnd m i ⌝ }

@@ -1,4 +1,5 @@
-// The corners of an outline, in whole numbers: exact, unlike the Rust's find_corners, which compares angles.
+// For a planner whose outline keeps its corners: which points are corners, in whole numbers. It is exact, unlike the
+// Rust's find_corners, which compares angles.
 //
 // Lists of points are x, y, x, y; flags are bytes, 1 for a corner and 0 for none.
 mod flags;

@@ -6,9 +6,9 @@ ghost use lib.IntN.{pos, natAbs, _+ℤ_, _-ℤ_, _*ℤ_};
 ghost use lib.Signed.{leZ};
 ghost use Rattle.point.specs.Limits.{badPoints};
 ghost use Rattle.util.specs.Area.{crossOf};
-ghost use Rattle.util.specs.Near.{Near};
+ghost use Rattle.point.specs.inside.Near.{Near};
 ghost use Rattle.corners.specs.Corners.{vector, before, behind, into, outOf, sharp};
-ghost use Rattle.corners.specs.Sizes.{Short, Moderate};
+ghost use Rattle.corners.specs.inside.Sizes.{Short, Moderate};
 use crate::Pair;
 use point::PointI32;
 
@@ -49,6 +49,7 @@ fn vector(p: PointI32, q: PointI32) -> PointI32
     PointI32 { x: x, y: y }
 }
 
+// The difference of two coordinates.
 fn difference(a: i32, b: i32) -> i32
     requires { ⌜ (natAbs a ≤ 16383) × (natAbs b ≤ 16383) ⌝ }
     ensures { λ r. ⌜ (r ≡ a -ℤ b) × (natAbs r ≤ 32766) ⌝ }

@@ -8,8 +8,7 @@ use lib.Dec.{ltb}
 use lib.ListN.{length}
 use borrow.Author.Tests.{lt-ltb}
 use Rattle.laws.proofs.If.{if-cases}
-use Rattle.words.specs.Into.{prepend}
-use Rattle.words.specs.Pairs.{pairOf, bytesOf}
+use Rattle.words.specs.Bytes.{prepend, pairOf, bytesOf}
 use Rattle.frames.specs.Answer.{badReply, bytesReply, answerTo}
 
 -- a byte has two digits
@@ -17,7 +16,7 @@ abbrev Digits : Option (List ℕ) → ℕ → Type 0
 Digits none n = Unit {0}
 Digits (some bytes) n = n ≡ 2 * length bytes
 
-two-more : (p n : ℕ) (b : Option (List ℕ)) → Digits b n → Digits (prepend (some p) b) (suc (suc n))
+two-more : (p n : ℕ) (b : Option (List ℕ)) → Digits b n → Digits (prepend p b) (suc (suc n))
 two-more p n none d = tt
 two-more p n (some bytes) d = omega arith
 

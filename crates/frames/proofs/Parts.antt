@@ -7,6 +7,8 @@ use native.Mathlib.Omega.{arith}
 use lib.Ieee.{Float}
 use lib.IntN.{ℤ}
 use lib.ListN.{length, take, length-take}
+use mir.Syntax.{w64}
+use mir.Val.{Fits}
 use Rattle.texts.specs.Put.{put}
 use Rattle.frames.specs.Replies.{pointsText, numbersText}
 use Rattle.frames.proofs.Sizes.{length-points, length-numbers}
@@ -15,17 +17,18 @@ use Rattle.frames.proofs.Sizes.{length-points, length-numbers}
 pub from-start : (n : ℕ) → n - 0 ≡ n
 from-start n = omega arith
 
--- at most two values for each of so few points
-pub at-most-two : (k j : ℕ) → k * 2 ≤ 8190 → j ≤ 2 → k * j ≤ 8190
-at-most-two k j few h = le-trans (mul-le-mul (le-refl k) h) few
+-- a part of a room for 8,190 values: at most two for each of so few points
+module _ (k : ℕ) (few : k * 2 ≤ 8190) where
+  at-most-two : (j : ℕ) → j ≤ 2 → k * j ≤ 8190
+  at-most-two j h = le-trans (mul-le-mul (le-refl k) h) few
+
+  pub part-fits : (j : ℕ) → j ≤ 2 → Fits w64 (k * j)
+  part-fits j h = record { fits = omega (arith, at-most-two j h) }
+
+  pub part-within : (values : List ℤ) (j : ℕ) → j ≤ 2 → length values ≡ 8190 → k * j ≤ length values
+  part-within values j h e = omega (arith, at-most-two j h)
 
 -- the number and the count as they are put
-pub points-part : (kind n m k l at : ℕ) (values : List ℤ) (out : List ℕ) → n ≡ m → k ≡ l →
-    put (pointsText kind n (take (k * 2 - 0) values)) out at ≡ put (pointsText kind m (take (l * 2) values)) out at
-points-part kind n m k l at values out number count =
-    ap (λ (j : ℕ). put (pointsText kind n (take j values)) out at) (from-start (k * 2))
-    ∙ ap₂ (λ (m l : ℕ). put (pointsText kind m (take (l * 2) values)) out at) number count
-
 pub numbers-part : (kind n m k l at : ℕ) (values : List Float) (out : List ℕ) → n ≡ m → k ≡ l →
     put (numbersText kind n (take (k - 0) values)) out at ≡ put (numbersText kind m (take l values)) out at
 numbers-part kind n m k l at values out number count =

@@ -6,8 +6,9 @@ use lib.IntN.{pos}
 use lib.Ieee.{Float, binary64, ofInt, div}
 use Rattle.walker.specs.Walk.{walked}
 use Rattle.simplify.specs.Simplify.{simplifyOf}
-use Rattle.reduce.specs.Reduce.{reduceOf, numberedOf}
-use Rattle.words.specs.Pairs.{bytesOf}
+use Rattle.reduce.specs.Numbers.{numberedOf}
+use Rattle.reduce.specs.Reduce.{reduceOf}
+use Rattle.words.specs.Bytes.{bytesOf}
 use Rattle.frames.specs.Replies.{pointsText, numbersText}
 use Rattle.frames.specs.Room.{room, marks, numberRoom}
 use Rattle.frames.specs.Calls.{walkReply, simplifyReply, reduceReply, numbersReply}

@@ -8,8 +8,8 @@ use Rattle.point.specs.Points.{flat}
 use Rattle.laws.specs.Lists.{over}
 use Rattle.chart.specs.Pixels.{badChart, pixelAt}
 use Rattle.walker.specs.Walk.{walked}
-use Rattle.words.specs.Digit.{digitOf}
-use Rattle.words.specs.Pairs.{pairOf}
+use Rattle.words.specs.Digits.{digitOf}
+use Rattle.words.specs.Bytes.{pairOf}
 use Rattle.frames.specs.Answer.{answerTo}
 
 -- 82 00 0001 0001 ffff

@@ -1,5 +1,5 @@
--- Document 01, "Frames": "Frames both ways hold at most 16,384 bytes, so 01 has room for 4,095 points and 04 for 2,047 numbers, else 10."
--- The buffers that a call is lent so that its answer fits a line. What they hold first does not matter.
+-- The buffers that a call is lent so that its answer fits a line. Document 01, "Frames": "Frames both ways hold at most 16,384 bytes, so 01 has room
+-- for 4,095 points and 04 for 2,047 numbers, else 10." What they hold first does not matter.
 use Prim.Native.Nat.{ℕ}
 use mathlib.Core.List.{List}
 use lib.IntN.{ℤ, pos}

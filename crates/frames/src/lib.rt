@@ -1,5 +1,5 @@
-// One frame in, one answer out: a line of hexadecimal asks for a call of the library, and its answer is
-// a line of hexadecimal.
+// One frame in, one answer out, for programs and callers in C: a line of hexadecimal asks for a call of the
+// library, and its answer is a line of hexadecimal.
 //
 // Nothing fails: what is no frame is answered so, and where an answer does not fit, nothing is written. What a
 // frame asks for is read in `requests`.
@@ -17,3 +17,6 @@ pub use calls::put_walk;
 pub use line::answer;
 pub use replies::put_numbers;
 pub use replies::put_points;
+
+// The most values of points, x and y of each, that a frame or an answer holds.
+pub const VALUES: usize = 8190;

@@ -8,7 +8,7 @@ use native.Mathlib.Omega.{arith}
 use lib.Pow.{pow-pos, pow-mono, pow-sub-lt, mod-pow-add, shr-shr, shr-mod, shr-lt}
 use lib.Bits.{bitAnd, and-mask, and-high}
 use lib.Count.{ones, ones-cat}
-use Rattle.laws.specs.Bits.{setBits}
+use Rattle.laws.specs.inside.Bits.{setBits}
 
 pub setBits-le : (k n : ℕ) → setBits k n ≤ k
 unfolding setBits
@@ -46,10 +46,6 @@ ones-mod (suc k) n =
 -- of a number of k digits, as a byte is for k = 8
 pub ones-is : (k n : ℕ) → n < 2 ^ k → ones n ≡ setBits k n
 ones-is k n h = ap ones (sym (mod-eq-of-lt h)) ∙ ones-mod k n
-
--- of its k low digits, kept by a mask
-pub ones-low : (k n : ℕ) → ones (bitAnd n (2 ^ k - 1)) ≡ setBits k n
-ones-low k n = ap ones (and-mask n k) ∙ ones-mod k n
 
 -- of the j high digits of a number of j + k, kept by a mask
 pub ones-high : (j k n : ℕ) → n < 2 ^ (j + k) → ones (bitAnd n (2 ^ (j + k) - 2 ^ k)) ≡ setBits j (n / 2 ^ k)

@@ -9,7 +9,7 @@ use lib.IntN.{ℤ, pos, natAbs, _-ℤ_}
 use lib.Ieee.{Float, binary64, ofInt, ofBits, add, sub, mul, div, ne}
 use Rattle.laws.proofs.Integers.{squares-pos}
 use Rattle.laws.proofs.Finite.{Below, Big, below-mono, ofInt-below, add-below, sub-below, mul-below, div-below, add-nonneg, square-nonneg}
-use Rattle.laws.specs.Finite.{NonNeg}
+use Rattle.laws.specs.inside.Finite.{NonNeg}
 use Rattle.laws.proofs.Whole.{Whole, ofInt-whole, zero-whole, sub-whole, mul-whole, add-whole, whole-big}
 use Rattle.laws.proofs.WholeTests.{ne-true-whole}
 

@@ -14,7 +14,7 @@ use lib.Ieee.Fits.{and-l, and-r, down-pos, round-is, two, two-le-pos}
 use lib.Ieee.Exact.{HasValue, round-exact}
 use lib.Ieee.Order.{round-mono}
 use lib.Ieee.Positive.{positive, positive-of-value, values-of-le}
-use Rattle.laws.specs.Finite.{Plus, NonNeg}
+use Rattle.laws.specs.inside.Finite.{Plus, NonNeg}
 
 -- ---- definitions: each is a record, so that antt finds the bound and the float from a fact in hand
 
@@ -262,24 +262,3 @@ square-nonneg {x} h = below-cases (λ x. NonNeg (mul binary64 x x)) (λ s m e l.
     square : (s : Bool) (m : ℕ) (e : ℤ) → NonNeg (mul binary64 (fin s m e) (fin s m e))
     square true m e = round-nonneg binary64 (m * up e * (m * up e)) (down e * down e)
     square false m e = round-nonneg binary64 (m * up e * (m * up e)) (down e * down e)
-
--- a product of what is finite: 0 times infinity is a NaN
-pub mul-nonneg : {j k : ℕ} {x y : Float} → Below j x → Below k y → NonNeg x → NonNeg y → NonNeg (mul binary64 x y)
-unfolding mul
-mul-nonneg {j} {k} {x} {y} h g p q =
-    nonneg-cases (λ x. Below j x → NonNeg (mul binary64 x y)) (λ h. absurd (h .at-most))
-    (λ m e h. nonneg-cases (λ y. Below k y → NonNeg (mul binary64 (fin false m e) y)) (λ g. absurd (g .at-most))
-    (λ n d g. round-nonneg binary64 (m * up e * (n * up d)) (down e * down d)) q g) p h
-
-pub div-nonneg : {x y : Float} → NonNeg x → NonNeg y → Big y → NonNeg (div binary64 x y)
-unfolding div
-div-nonneg {x} {y} h g b =
-    nonneg-cases (λ y. Big y → NonNeg (div binary64 x y)) (λ b. absurd (b .at-least))
-    (λ n d b. nonneg-cases (λ x. NonNeg (div binary64 x (fin false n d))) infinity-nonneg (λ m e. finite m e n d (b .at-least)) h) g b
-  where
-    finite : (m : ℕ) (e : ℤ) (n : ℕ) (d : ℤ) → down d ≤ n * up d → NonNeg (div binary64 (fin false m e) (fin false n d))
-    finite m e n d b = go (eqb n 0) (eqb→eq n 0)
-      where
-        go : (c : Bool) → (T c → n ≡ 0) → NonNeg (cond c (cond (eqb m 0) nan (inf false)) (round binary64 false (m * up e * down d) (n * up d * down e)))
-        go true z = absurd (no-zero n (up d) (down d) (z tt) (down-pos d) b)
-        go false z = round-nonneg binary64 (m * up e * down d) (n * up d * down e)

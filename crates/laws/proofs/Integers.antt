@@ -2,12 +2,12 @@
 -- and what the tests of signed numbers in code say of them. Assumes nothing.
 use mathlib.Core.Path.{_≡_, refl, sym, ap, _∙_, subst}
 use mathlib.Core.Bool.{Bool, true, false, not, cond, _&&_, and-true}
-use Prim.Native.Nat.{ℕ, zero, suc, _+_, _*_, _-_, _/_, _%_, _^_, _≤_, _<_}
+use Prim.Native.Nat.{ℕ, zero, suc, _+_, _*_, _-_, _/_, _^_, _≤_, _<_}
 use native.Mathlib.Nat.{le-refl, le-of-eq, le-trans, lt-of-le-of-lt, mul-le-mul, mul-pos, zero-lt-suc, div-le-self}
 use native.Mathlib.Omega.{arith}
 use lib.Dec.{T, leb, ltb, leb·suc-suc, ltb→lt, nltb→le, leb→le}
 use lib.IntN.{ℤ, pos, negsuc, negℤ, natAbs, subℕ, _+ℤ_, _-ℤ_, _*ℤ_}
-use lib.Signed.{mag, quotZ, remZ, leZ, ltZ, _≤ℤ_, _<ℤ_, leZ-yes, ltZ-yes, ltZ-no}
+use lib.Signed.{mag, quotZ, leZ, ltZ, _≤ℤ_, _<ℤ_, leZ-yes, ltZ-yes, ltZ-no}
 use lib.Ieee.Bits.{is-true}
 use mir.Syntax.{Width}
 use mir.Val.{SFits, hbits, ofZ, toZ}
@@ -55,10 +55,6 @@ abs-quot (pos a) (negsuc b) = abs-neg (pos (a / suc b))
 abs-quot (negsuc a) (pos b) = abs-neg (pos (suc a / b))
 abs-quot (negsuc a) (negsuc b) = refl
 
-pub abs-rem : (a b : ℤ) → natAbs (remZ a b) ≡ natAbs a % natAbs b
-abs-rem (pos a) b = refl
-abs-rem (negsuc a) b = abs-neg (pos (suc a % natAbs b))
-
 pub square : (a : ℤ) → a *ℤ a ≡ pos (natAbs a * natAbs a)
 square (pos a) = refl
 square (negsuc a) = refl
@@ -78,9 +74,6 @@ squares-pos (pos (suc n)) b h = rw (squares (pos (suc n)) b) (omega (arith, mul-
 squares-pos (negsuc n) b h = rw (squares (negsuc n) b) (omega (arith, mul-pos (zero-lt-suc n) (zero-lt-suc n)))
 
 -- ---- bounds: that of a result is worked out from those of its parts
-
-pub abs-neg-le : (a : ℤ) {m : ℕ} → natAbs a ≤ m → natAbs (negℤ a) ≤ m
-abs-neg-le a h = omega (arith, abs-neg a)
 
 pub abs-add-le : (a b : ℤ) {m n : ℕ} → natAbs a ≤ m → natAbs b ≤ n → natAbs (a +ℤ b) ≤ m + n
 abs-add-le a b h k = omega (arith, abs-add a b)
@@ -203,15 +196,8 @@ module _ (k n : ℕ) (e : suc k ≡ n) (v : ℤ) where
   pub range-true : (leZ (negsuc k) v && leZ v (pos n)) ≡ true → natAbs v ≤ n
   range-true h = leb-true (natAbs v) n (sym range-is ∙ h)
 
-  pub range-false : (leZ (negsuc k) v && leZ v (pos n)) ≡ false → n < natAbs v
-  range-false h = leb-false (natAbs v) n (sym range-is ∙ h)
-
   pub in-range : natAbs v ≤ n → (leZ (negsuc k) v && leZ v (pos n)) ≡ true
   in-range h = range-is ∙ le-leb (natAbs v) n h
-
-  -- its two tests by themselves
-  pub range-both : leZ (negsuc k) v ≡ true → leZ v (pos n) ≡ true → natAbs v ≤ n
-  range-both l h = range-true (rw (l, h))
 
   pub range-low : natAbs v ≤ n → leZ (negsuc k) v ≡ true
   range-low h = both-true (leZ (negsuc k) v) (leZ v (pos n)) (in-range h) .0

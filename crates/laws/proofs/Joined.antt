@@ -11,13 +11,6 @@ pub both-false : (a b : Bool) → (a || b) ≡ false → (a ≡ false) × (b ≡
 both-false true b h = absurd (false≢true (sym h))
 both-false false b h = (refl, h)
 
--- the first decides
-pub and-first : (a b : Bool) → a ≡ false → false ≡ (a && b)
-and-first a b h = cc
-
-pub or-first : (a b : Bool) → a ≡ true → true ≡ (a || b)
-or-first a b h = cc
-
 -- the first decides, and is itself what is returned
 pub and-itself : (a b : Bool) → a ≡ false → a ≡ (a && b)
 and-itself a b h = cc

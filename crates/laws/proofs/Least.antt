@@ -1,13 +1,10 @@
 -- The least of two floats, as code that walks some distances and +infinity keeps it: a threshold is below it exactly when it is below both,
 -- and the order in which the least of several is taken does not matter. Assumes nothing.
 use mathlib.Core.Path.{_≡_, refl, sym, subst}
-use mathlib.Core.Logic.{_⊎_, inl, inr}
 use mathlib.Core.Bool.{Bool, true, false, _&&_, true≢false}
-use Prim.Native.Nat.{ℕ}
 use lib.Dec.{T}
 use lib.Ieee.{Float, nan, inf, fin, binary64, fits, lt}
-use Rattle.laws.proofs.Finite.{Below}
-use Rattle.laws.specs.Finite.{NonNeg}
+use Rattle.laws.specs.inside.Finite.{NonNeg}
 use Rattle.laws.specs.Least.{least}
 use Rattle.laws.proofs.Order.{AtLeastZero, at-least-zero, lt-asymmetric, lt-irreflexive, lt-transitive, ge-transitive, lt-le-transitive, lt-antisymmetric}
 
@@ -28,20 +25,8 @@ least-cases x y Q f g = go (lt y x) refl
     go true h = subst Q (sym (least-second x y h)) (f h)
     go false h = subst Q (sym (least-first x y h)) (g h)
 
-pub least-is : (x y : Float) → (least x y ≡ x) ⊎ (least x y ≡ y)
-least-is x y = least-cases x y (λ m. (m ≡ x) ⊎ (m ≡ y)) (λ h. inr refl) (λ h. inl refl)
-
-pub least-nonneg : {x y : Float} → NonNeg x → NonNeg y → NonNeg (least x y)
-least-nonneg {x} {y} p q = least-cases x y NonNeg (λ h. q) (λ h. p)
-
 pub least-at-least-zero : {x y : Float} → AtLeastZero x → AtLeastZero y → AtLeastZero (least x y)
 least-at-least-zero {x} {y} p q = least-cases x y AtLeastZero (λ h. q) (λ h. p)
-
-pub least-below : {k : ℕ} {x y : Float} → Below k x → Below k y → Below k (least x y)
-least-below {k} {x} {y} h g = least-cases x y (λ m. Below k m) (λ l. g) (λ l. h)
-
-pub least-fits : (x y : Float) → T (fits binary64 x) → T (fits binary64 y) → T (fits binary64 (least x y))
-least-fits x y a b = least-cases x y (λ m. T (fits binary64 m)) (λ h. b) (λ h. a)
 
 -- ---- the order
 

@@ -1,11 +1,13 @@
--- Laws that the proofs of the other crates cite, each file on one subject, leaves first.
+-- Laws that the proofs of the other crates cite, each file on one subject, leaves first. For readers: Determined says once why a contract that
+-- is one equation leaves no choice.
 --     If           a choice by a test
+--     Determined   a contract that is one equation leaves no choice
 --     Joined       two tests joined by `&&` or `||`
 --     Integers     sizes of signed numbers, what fits `i32` and `i64`, tests of them; `signed-laws` for `search`
 --     Ring         an integer as a difference of naturals, for `omega`; the ring and its order
 --     Bits         digits that are set, counted and one by one
 --     Compare      `le` and `eq` of floats from `lt`
---     Finite       floats that are bounded (`Below`), 1 at least (`Big`), with the sign + (`NonNeg`): closed under the operations
+--     Finite       floats that are bounded (`Below`), 1 at least (`Big`), with the sign + (`NonNeg`): what the operations leave of that
 --     Order        `lt` of floats that are 0 at least, +infinity included, is strict and total
 --     Least        the least of two floats
 --     Whole        floats that are whole numbers: exact sums, differences and products

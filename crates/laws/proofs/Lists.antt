@@ -1,12 +1,12 @@
 -- What a loop that writes a lent buffer from its start needs beyond `lib.Seq`: one store or two as a longer front, and `over`, a list laid
 -- over the start of the buffer. Assumes nothing.
 use mathlib.Core.Path.{_≡_, refl, sym, ap, _∙_}
-use mathlib.Core.List.{List, [], _∷_, _++_, append-assoc, append-nil}
+use mathlib.Core.List.{List, [], _∷_, _++_, append-assoc}
 use Prim.Native.Nat.{ℕ, _+_, _-_, _≤_, _<_}
 use native.Mathlib.Numerals.{add-one}
 use native.Mathlib.Omega.{arith}
-use lib.ListN.{length, getD, take, drop, set, length-append, length-drop, length-set, take-append-drop, drop-of-length-le, List·getD-append}
-use lib.Seq.{length-take-le, drop-cons, append-snoc, set-at, set-append-left, take-append-seam, take-append-le, drop-append-add, drop-drop, getD-append-add, getD-drop}
+use lib.ListN.{length, getD, take, drop, set, length-append, length-drop, List·getD-append}
+use lib.Seq.{drop-cons, append-snoc, set-at, take-append-seam, drop-append-add, drop-drop}
 use Rattle.laws.specs.Lists.{over}
 
 module _ {ℓ} {A : Type ℓ} where
@@ -32,15 +32,6 @@ module _ {ℓ} {A : Type ℓ} where
   unfolding over
   over-nil old = refl
 
-  -- what stands there already changes nothing
-  pub over-take : (n : ℕ) (old : List A) → n ≤ length old → over (take n old) old ≡ old
-  unfolding over
-  over-take n old h = ap (λ (k : ℕ). take n old ++ drop k old) (length-take-le n old h) ∙ take-append-drop n old
-
-  pub over-all : (xs old : List A) → length old ≤ length xs → over xs old ≡ xs
-  unfolding over
-  over-all xs old h = ap (λ (l : List A). xs ++ l) (drop-of-length-le old h) ∙ append-nil xs
-
   pub length-over : (xs old : List A) → length xs ≤ length old → length (over xs old) ≡ length old
   unfolding over
   length-over xs old h = simp (length-append, length-drop) (omega arith)
@@ -61,16 +52,7 @@ module _ {ℓ} {A : Type ℓ} where
       ∙ push-two xs old n x y e h
       ∙ ap (λ (k : ℕ). xs ++ (x ∷ y ∷ []) ++ drop k old) (ap (λ (k : ℕ). k + 2) (sym e) ∙ sym (length-append xs (x ∷ y ∷ [])))
 
-  -- a value of the front stored anew
-  pub set-over : (xs old : List A) (i : ℕ) (x : A) → i < length xs → set (over xs old) i x ≡ over (set xs i x) old
-  unfolding over
-  set-over xs old i x h = rw (set-append-left, length-set)
-
   -- ---- its parts and its values
-
-  pub take-over : (xs old : List A) (n : ℕ) → n ≤ length xs → take n (over xs old) ≡ take n xs
-  unfolding over
-  take-over xs old n h = take-append-le n xs (drop (length xs) old) h
 
   pub take-over-all : (xs old : List A) → take (length xs) (over xs old) ≡ xs
   unfolding over
@@ -85,13 +67,3 @@ module _ {ℓ} {A : Type ℓ} where
   pub getD-over-front : (xs old : List A) (i : ℕ) (d : A) → i < length xs → getD (over xs old) i d ≡ getD xs i d
   unfolding over
   getD-over-front xs old i d h = List·getD-append xs (drop (length xs) old) d i h
-
-  pub getD-over-rest : (xs old : List A) (i : ℕ) (d : A) → length xs ≤ i → getD (over xs old) i d ≡ getD old i d
-  unfolding over
-  getD-over-rest xs old i d h =
-      let e : i ≡ length xs + (i - length xs) = omega arith in
-      rw (e, getD-append-add, getD-drop)
-
-  -- a longer front laid over a shorter one
-  pub over-over : (xs ys old : List A) → length xs ≤ length ys → over ys (over xs old) ≡ over ys old
-  over-over xs ys old h = unfold over in ap (λ (l : List A). ys ++ l) (drop-over xs old (length ys) h)

@@ -15,7 +15,7 @@ use lib.Ieee.Nearest.{div-same}
 use lib.Ieee.Bits.{ofBits-toBits}
 use lib.Ieee.Positive.{through}
 use borrow.Author.Tests.{ltb-true, ltb-false, lt-ltb, le-ltb}
-use Rattle.laws.specs.Finite.{NonNeg}
+use Rattle.laws.specs.inside.Finite.{NonNeg}
 use Rattle.laws.proofs.Finite.{nonneg-cases}
 
 -- ---- what is ordered

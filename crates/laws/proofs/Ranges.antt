@@ -1,20 +1,19 @@
 -- What a test of a float against whole bounds says, as a call makes it of a coordinate or a tolerance: a float that is not less than one
--- and not greater than the other is finite and bounded, so no NaN; and one that is not less than 0 is `AtLeastZero`. Assumes nothing.
+-- and not greater than the other is finite and bounded, so no NaN. Assumes nothing.
 use mathlib.Core.Path.{_≡_, refl, sym, ap, _∙_}
 use mathlib.Core.Bool.{Bool, true, false, _&&_, false≢true}
-use Prim.Native.Nat.{ℕ, zero, suc, _+_, _*_, _^_, _≤_, _<_}
-use native.Mathlib.Nat.{le-refl, le-trans, le-of-eq, mul-right-comm, mul-le-mul-right, le-of-mul-le-mul-right, mul-pos, zero-mul, zero-lt-suc}
+use Prim.Native.Nat.{ℕ, _+_, _*_, _^_, _≤_}
+use native.Mathlib.Nat.{le-refl, le-trans, le-of-eq, mul-right-comm, mul-le-mul-right, le-of-mul-le-mul-right}
 use native.Mathlib.Omega.{arith}
 use lib.Dec.{T, leb, leb→le, le→leb}
 use lib.Pow.{pow-mono}
-use lib.IntN.{ℤ, pos, natAbs, pos-ne-negsuc}
+use lib.IntN.{ℤ, natAbs}
 use lib.Ieee.{Float, nan, inf, fin, binary64, up, down, ofInt, isNan, below, lt, le}
-use lib.Ieee.Fits.{and-l, and-r, up-pos, down-pos}
+use lib.Ieee.Fits.{and-l, and-r, down-pos}
 use borrow.Author.Tests.{ltb-false, not-true}
 use Rattle.laws.proofs.Joined.{both-true}
 use Rattle.laws.proofs.Compare.{le-is, le-nan}
 use Rattle.laws.proofs.Finite.{Below}
-use Rattle.laws.proofs.Order.{AtLeastZero}
 use Rattle.laws.proofs.Whole.{Whole, ofInt-whole, signed, abs-signed, whole-cases}
 
 -- ---- of two finite floats: what is at most another is not above it, and so the sizes compare
@@ -51,29 +50,7 @@ within-below k {n} {x = fin true m e} v w g h t =
     whole-cases (λ lo a. natAbs a ≤ n → le lo (fin true m e) ≡ true → Below k (fin true m e))
     (λ s i d j f l c. record { at-most = under k n m e s i d j f l t (minus-size s (i * up d * down e) (m * up e * down d) (not-above (fin s i d) (fin true m e) refl refl c)) }) v (v .bound) g
 
--- ---- not less than a whole number that is not negative
-
-no-size : (m u d : ℕ) → 0 < u → 0 < d → m * u * d ≤ 0 → m ≡ 0
-no-size zero u d U D h = refl
-no-size (suc m) u d U D h = absurd (omega (arith, mul-pos (mul-pos (zero-lt-suc m) U) D))
-
-minus-zero : (s : Bool) (i : ℕ) (d : ℤ) (j k m : ℕ) (e : ℤ) → i * up d ≡ j * down d → signed s j ≡ pos k → le (fin s i d) (fin true m e) ≡ true → m ≡ 0
-unfolding le isNan
-minus-zero false i d j k m e f z c = no-size m (up e) (down d) (up-pos e) (down-pos d) (omega (arith, ltb-false 0 (m * up e * down d + i * up d * down e) (not-above (fin false i d) (fin true m e) refl refl c)))
-minus-zero true i d zero k m e f z c =
-    no-size m (up e) (down d) (up-pos e) (down-pos d)
-    (le-trans (minus-size true (i * up d * down e) (m * up e * down d) (not-above (fin true i d) (fin true m e) refl refl c)) (le-of-eq (ap (λ (x : ℕ). x * down e) (f ∙ zero-mul (down d)) ∙ zero-mul (down e))))
-minus-zero true i d (suc j) k m e f z c = absurd (pos-ne-negsuc k j (sym z))
-
-pub from-zero : {n k : ℕ} {lo x : Float} → Whole n lo (pos k) → le lo x ≡ true → AtLeastZero x
-unfolding le
-from-zero {lo} {x = nan} v g = absurd (false≢true (sym (le-nan lo) ∙ g))
-from-zero {x = inf true} v g = absurd (whole-cases (λ lo a. le lo (inf true) ≡ true → ⊥) (λ s i d j e f. false≢true f) v g)
-from-zero {x = inf false} v g = record { zero-or-more = refl }
-from-zero {x = fin false m e} v g = record { zero-or-more = λ h. absurd (false≢true h) }
-from-zero {k} {x = fin true m e} v g = record { zero-or-more = λ h. whole-cases (λ lo a. a ≡ pos k → le lo (fin true m e) ≡ true → m ≡ 0) (λ s i d j f z c. minus-zero s i d j k m e f z c) v refl g }
-
--- ---- both, as a call tests what it is handed: from a to b, both counted in
+-- ---- as a call tests what it is handed: from a to b, both counted in
 
 pub between-below : (k : ℕ) (a b : ℤ) (x : Float) → (le (ofInt binary64 a) x && le x (ofInt binary64 b)) ≡ true → T (leb (natAbs a) (2 ^ k) && leb (natAbs b) (2 ^ k) && leb k 53) → Below k x
 between-below k a b x h t =
@@ -83,6 +60,3 @@ between-below k a b x h t =
     let f = and-r (leb (natAbs a) (2 ^ k) && leb (natAbs b) (2 ^ k)) (leb k 53) t in
     let small : T (leb (2 ^ k) (2 ^ 53)) = le→leb (2 ^ k) (2 ^ 53) (pow-mono (leb→le k 53 f)) in
     within-below k (ofInt-whole a (leb→le (natAbs a) (2 ^ k) l) small) (ofInt-whole b (leb→le (natAbs b) (2 ^ k) g) small) (both .0) (both .1) (le→leb (2 ^ k) (2 ^ k) (le-refl (2 ^ k)))
-
-pub between-zero : (n : ℕ) (b : ℤ) (x : Float) → (le (ofInt binary64 (pos n)) x && le x (ofInt binary64 b)) ≡ true → T (leb n (2 ^ 53)) → AtLeastZero x
-between-zero n b x h t = from-zero (ofInt-whole (pos n) (le-refl n) t) (both-true (le (ofInt binary64 (pos n)) x) (le x (ofInt binary64 b)) h .0)

@@ -114,18 +114,6 @@ ltZ-false-pn a b e = le-pn (ltZ-false a b e)
 pub +ℤ-left-comm : (a b c : ℤ) → a +ℤ (b +ℤ c) ≡ b +ℤ (a +ℤ c)
 +ℤ-left-comm a b c = eq-pn (a +ℤ (b +ℤ c)) (b +ℤ (a +ℤ c)) (omega (arith, add-pn a (b +ℤ c), add-pn b c, add-pn b (a +ℤ c), add-pn a c))
 
-pub +ℤ-right-comm : (a b c : ℤ) → a +ℤ b +ℤ c ≡ a +ℤ c +ℤ b
-+ℤ-right-comm a b c = eq-pn (a +ℤ b +ℤ c) (a +ℤ c +ℤ b) (omega (arith, add-pn (a +ℤ b) c, add-pn a b, add-pn (a +ℤ c) b, add-pn a c))
-
-pub negℤ--ℤ : (a b : ℤ) → negℤ (a -ℤ b) ≡ b -ℤ a
-negℤ--ℤ a b = eq-pn (negℤ (a -ℤ b)) (b -ℤ a) (omega (arith, sub-pn a b, sub-pn b a, neg-pn (a -ℤ b)))
-
-pub -ℤ-self : (a : ℤ) → a -ℤ a ≡ pos 0
--ℤ-self a = eq-pn (a -ℤ a) (pos 0) (omega (arith, sub-pn a a))
-
-pub -ℤ-zero-eq : (a b : ℤ) → a -ℤ b ≡ pos 0 → a ≡ b
--ℤ-zero-eq a b e = eq-pn a b (omega (arith, sub-pn a b, ap P e, ap N e))
-
 -- ---- products. Each distributes: the fact of the sum, times P and N of the factor
 
 module _ (a b c : ℤ) where
@@ -162,9 +150,6 @@ pub *ℤ-negℤ : (a b : ℤ) → a *ℤ negℤ b ≡ negℤ (a *ℤ b)
 *ℤ-negℤ a b = *ℤ-comm a (negℤ b) ∙ negℤ-*ℤ b a ∙ ap negℤ (*ℤ-comm b a)
 
 -- ---- the order: chains
-
-pub <ℤ-≤ℤ : {a b : ℤ} → a <ℤ b → a ≤ℤ b
-<ℤ-≤ℤ {a} {b} h = pn-le a b (omega (arith, lt-pn h))
 
 pub ≤ℤ-trans : {a b c : ℤ} → a ≤ℤ b → b ≤ℤ c → a ≤ℤ c
 ≤ℤ-trans {a} {b} {c} h k = pn-le a c (omega (arith, le-pn h, le-pn k))

@@ -1,22 +1,21 @@
 -- Whole numbers up to 2 ^ 53 are exact as f64: `Whole n x z` says that the float x is the integer z, and sums, differences and products of
 -- such are whole again. `WholeTests` compares them. Assumes nothing.
 use mathlib.Core.Path.{_≡_, refl, sym, ap, _∙_, subst}
-use mathlib.Core.Bool.{Bool, true, false, not, cond, true≢false}
+use mathlib.Core.Bool.{Bool, true, false, not, cond}
 use Prim.Native.Nat.{ℕ, suc, _+_, _-_, _*_, _^_, _≤_, _<_}
 use native.Mathlib.Nat.{le-trans, le-of-eq, le-of-lt, lt-of-mul-lt-mul-right, le-of-mul-le-mul-right, eq-of-mul-eq-mul-right, le-refl, le-antisymm, add-le-add, mul-one, one-mul, mul-comm, mul-sub, mul-assoc, mul-mul-mul-comm, mul-pos, mul-le-mul-right}
 use native.Mathlib.Omega.{arith}
 use lib.Dec.{T, leb, ltb, leb→le, ltb→lt, nltb→le}
 use lib.Pow.{pow-pos}
 use lib.IntN.{ℤ, pos, negsuc, negℤ, natAbs, _+ℤ_, _-ℤ_, _*ℤ_, negℤ-negℤ, negℤ-+ℤ, +ℤ-comm}
-use lib.Ieee.{Float, nan, inf, fin, binary64, up, down, round, neg, sum, add, sub, mul, ofInt, ofBits, fits, isNan, unlike}
-use lib.Ieee.Fits.{down-pos, ofInt-fits}
+use lib.Ieee.{Float, nan, inf, fin, binary64, up, down, round, neg, sum, add, sub, mul, ofInt, ofBits, isNan, unlike}
+use lib.Ieee.Fits.{down-pos}
 use lib.Ieee.Exact.{HasValue}
-use lib.Ieee.Back.{round-whole, whole-unique}
+use lib.Ieee.Back.{round-whole}
 use lib.Ieee.Scale.{round-same}
 use Rattle.laws.proofs.Integers.{abs-neg, abs-add-le, abs-mul-le}
 use Rattle.laws.proofs.Ring.{add-pn, neg-pn, eq-pn, negℤ-*ℤ, *ℤ-negℤ}
-use Rattle.laws.proofs.Finite.{Below, Big, ofInt-nonneg}
-use Rattle.laws.specs.Finite.{NonNeg}
+use Rattle.laws.proofs.Finite.{Big}
 
 -- ---- definitions
 
@@ -38,9 +37,6 @@ Equals (fin s m e) z = (k : ℕ) × (z ≡ signed s k) × (m * up e ≡ k * down
 pub record Whole (n : ℕ) (x : Float) (z : ℤ) : Type 0 where
   pub equals : Equals x z
   pub bound : natAbs z ≤ n
-
-pub whole-mono : {m n : ℕ} {x : Float} {z : ℤ} → Whole m x z → T (leb m n) → Whole n x z
-whole-mono {m} {n} w t = record { equals = w .equals; bound = le-trans (w .bound) (leb→le m n t) }
 
 -- what is whole is finite: its integer is its sign and its size k
 pub whole-cases : {n : ℕ} {x : Float} {z : ℤ} (Q : Float → ℤ → Type 0) → ((s : Bool) (m : ℕ) (e : ℤ) (k : ℕ) → m * up e ≡ k * down e → Q (fin s m e) (signed s k)) → Whole n x z → Q x z
@@ -178,34 +174,13 @@ pub whole-number : {n : ℕ} {x : Float} {z : ℤ} → Whole n x z → isNan x �
 unfolding isNan
 whole-number w = whole-cases (λ x z. isNan x ≡ false) (λ s m e k h. refl) w
 
--- two that the code has as literals: 0.0 and 1.0
+-- one that the code has as a literal: 0.0
 pub zero-whole : Whole 0 (ofBits binary64 0) (pos 0)
 unfolding ofBits
 zero-whole = record { equals = (0, refl, refl); bound = le-refl 0 }
-
-pub one-whole : Whole 1 (ofBits binary64 0x3ff0000000000000) (pos 1)
-unfolding ofBits
-one-whole = record { equals = (1, refl, refl); bound = le-refl 1 }
-
-pub whole-below : {n : ℕ} {x : Float} {z : ℤ} (k : ℕ) → Whole n x z → T (leb n (2 ^ k)) → Below k x
-whole-below {n} k w t = whole-cases (λ x z. natAbs z ≤ n → Below k x) (λ s i e j h l. record { at-most = go s i e j h l }) w (w .bound)
-  where
-    go : (s : Bool) (i : ℕ) (e : ℤ) (j : ℕ) → i * up e ≡ j * down e → natAbs (signed s j) ≤ n → i * up e ≤ 2 ^ k * down e
-    go s i e j h l = le-trans (le-of-eq h) (mul-le-mul-right (down e) (le-trans (le-of-eq (sym (abs-signed s j))) (le-trans l (leb→le n (2 ^ k) t))))
 
 pub whole-big : {n : ℕ} {x : Float} {z : ℤ} → Whole n x z → 0 < natAbs z → Big x
 whole-big w = whole-cases (λ x z. 0 < natAbs z → Big x) (λ s i e j h l. record { at-least = go s i e j h l }) w
   where
     go : (s : Bool) (i : ℕ) (e : ℤ) (j : ℕ) → i * up e ≡ j * down e → 0 < natAbs (signed s j) → down e ≤ i * up e
     go s i e j h l = le-trans (le-of-eq (sym (one-mul (down e)))) (le-trans (mul-le-mul-right (down e) (le-trans l (le-of-eq (abs-signed s j)))) (le-of-eq (sym h)))
-
--- a value of f64 with the sign + is the integer as a float: only -0 is another
-pub whole-is : {n k : ℕ} {x : Float} → Whole n x (pos k) → NonNeg x → T (fits binary64 x) → T (leb n (2 ^ 53)) → x ≡ ofInt binary64 (pos k)
-whole-is {n} {k} {x} w p f t =
-    whole-unique binary64 x (ofInt binary64 (pos k)) false k f (ofInt-fits binary64 (pos k)) (value x p w) (value (ofInt binary64 (pos k)) (ofInt-nonneg (pos k) tt) (ofInt-whole (pos k) (w .bound) t))
-  where
-    value : (x : Float) → NonNeg x → Whole n x (pos k) → HasValue x false k 1
-    value nan p w = absurd (p .plus)
-    value (inf s) p w = absurd (w .equals)
-    value (fin true m e) p w = absurd (true≢false (p .plus))
-    value (fin false m e) p w = (refl, mul-one (m * up e) ∙ w .equals .2 ∙ ap (λ (z : ℤ). natAbs z * down e) (sym (w .equals .1)))

@@ -5,18 +5,14 @@ use mathlib.Core.Bool.{Bool, true, false, not, _&&_, true≢false}
 use Prim.Native.Nat.{ℕ, zero, suc, _+_, _*_, _<_}
 use native.Mathlib.Nat.{mul-comm, mul-assoc, mul-pos, mul-le-mul-right, mul-lt-mul-of-pos-right, add-mul, zero-mul, zero-add, zero-lt-suc}
 use native.Mathlib.Omega.{arith}
-use lib.Dec.{ltb, eqb, leb·suc-suc}
+use lib.Dec.{ltb, leb·suc-suc}
 use lib.IntN.{ℤ}
-use lib.Signed.{leZ, ltZ, ≤ℤ-refl}
-use lib.Ieee.{Float, fin, up, down, lt, le, eq, ne, below}
+use lib.Signed.{ltZ, ≤ℤ-refl}
+use lib.Ieee.{Float, fin, up, down, lt, eq, ne, below}
 use lib.Ieee.Fits.{down-pos}
-use mir.Syntax.{Width}
-use mir.Val.{SFits, ofZ}
-use borrow.Author.Tests.{ltb-true, ltb-false, lt-ltb, le-ltb, eq-eqb, ne-eqb, not-true, not-false}
-use Rattle.laws.proofs.Joined.{both-true}
-use Rattle.laws.proofs.Compare.{eq-is, le-is}
-use Rattle.laws.proofs.Integers.{ofZ-inj, leZ-not, ltZ-false, le-ltZ}
-use Rattle.laws.proofs.Ring.{≤ℤ-antisym}
+use borrow.Author.Tests.{ltb-true, ltb-false, lt-ltb, le-ltb, not-true}
+use Rattle.laws.proofs.Compare.{eq-is}
+use Rattle.laws.proofs.Integers.{le-ltZ}
 use Rattle.laws.proofs.Whole.{Whole, signed, whole-pairs, whole-number}
 
 -- ---- less than
@@ -59,32 +55,12 @@ lt-whole v w = whole-pairs (λ x a y b. lt x y ≡ ltZ a b) lt-fin v w
 pub eq-whole : {m n : ℕ} {x y : Float} {a b : ℤ} → Whole m x a → Whole n y b → eq x y ≡ (not (ltZ a b) && not (ltZ b a))
 eq-whole {x} {y} v w = eq-is x y (whole-number v) (whole-number w) ∙ rw (lt-whole v w, lt-whole w v)
 
-pub le-whole : {m n : ℕ} {x y : Float} {a b : ℤ} → Whole m x a → Whole n y b → le x y ≡ leZ a b
-le-whole {x} {y} {a} {b} v w = le-is x y (whole-number v) (whole-number w) ∙ ap not (lt-whole w v) ∙ sym (leZ-not a b)
-
--- ---- what a test says, and the test that code makes of the integers as bits
+-- ---- what a test says
 
 module _ {m n : ℕ} {x y : Float} {a b : ℤ} (v : Whole m x a) (w : Whole n y b) where
-  pub eq-true-whole : eq x y ≡ true → a ≡ b
-  eq-true-whole h =
-      let both = both-true (not (ltZ a b)) (not (ltZ b a)) (sym (eq-whole v w) ∙ h) in
-      ≤ℤ-antisym (ltZ-false b a (not-true (ltZ b a) (both .1))) (ltZ-false a b (not-true (ltZ a b) (both .0)))
-
   pub eq-false-whole : eq x y ≡ false → a ≡ b → ⊥
   eq-false-whole h e = true≢false (sym (eq-whole v w ∙ rw (e, le-ltZ (≤ℤ-refl b))) ∙ h)
 
   pub ne-true-whole : ne x y ≡ true → a ≡ b → ⊥
   unfolding ne
   ne-true-whole h = eq-false-whole (not-true (eq x y) h)
-
-  pub ne-false-whole : ne x y ≡ false → a ≡ b
-  unfolding ne
-  ne-false-whole h = eq-true-whole (not-false (eq x y) h)
-
-  -- `==` of signed numbers is that of their bits
-  pub eq-bits-whole : (t : Width) → SFits t a → SFits t b → eq x y ≡ eqb (ofZ t a) (ofZ t b)
-  eq-bits-whole t p q = go (eq x y) refl
-    where
-      go : (u : Bool) → eq x y ≡ u → u ≡ eqb (ofZ t a) (ofZ t b)
-      go true h = sym (eq-eqb (ofZ t a) (ofZ t b) (ap (ofZ t) (eq-true-whole h)))
-      go false h = sym (ne-eqb (ofZ t a) (ofZ t b) (λ e. eq-false-whole h (ofZ-inj t a b p q e)))

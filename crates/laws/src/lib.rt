@@ -1,1 +1,2 @@
-// Laws on whole numbers, floats, bits and lists that the proofs of the other crates cite. No code: the laws are in specs/.
+// For those who prove: the few words that the definitions of several crates are made of (specs/), and the laws on
+// whole numbers, floats, bits and lists that their proofs cite (proofs/). No code.

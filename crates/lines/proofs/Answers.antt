@@ -23,7 +23,7 @@ module _ (answer : List ℕ → List ℕ) (most : ℕ) (sizes : ℕ → ℕ) (in
   Goes turns m = Going answer most sizes input output text turns m
 
   abbrev turn : Machine → Turn
-  turn m = stepIn answer most sizes m .turn
+  turn m = stepIn answer most sizes m .answer
 
   at-start : Goes (3 * length text + 1) (started input output text)
   at-start =
@@ -106,16 +106,16 @@ module _ (answer : List ℕ → List ℕ) (most : ℕ) (sizes : ℕ → ℕ) (in
         Phases.read-so-far answer (length input) text (holds .1 .over) (holds .1 .long) _ (machine .text) _ (holds .1 .between .phase)
 
     -- when it is about to read on, it has written the answers to all lines that it has got, and nothing else
-    pub answers-come-before-more-is-read : (at : ℕ) (s : State) (got : List ℕ) → stepIn answer most sizes machine .turn ≡ Read at s →
+    pub answers-come-before-more-is-read : (at : ℕ) (s : State) (got : List ℕ) → stepIn answer most sizes machine .answer ≡ Read at s →
         text ≡ got ++ machine .text → machine .written ≡ answersTo answer (length input) (wholeLines got)
     answers-come-before-more-is-read at s got e is = shown (Read at s) e .1 got is
 
     -- when it ends, it has written the answers to all lines, and nothing else
-    pub every-line-is-answered : stepIn answer most sizes machine .turn ≡ End → machine .written ≡ answersTo answer (length input) (linesOf text)
+    pub every-line-is-answered : stepIn answer most sizes machine .answer ≡ End → machine .written ≡ answersTo answer (length input) (linesOf text)
     every-line-is-answered e = shown End e .1
 
     -- it ends, after so many turns at most: a read, a line and a write for each byte, and a read that brings nothing
-    pub it-ends : 3 * length text + 1 ≤ n → stepIn answer most sizes machine .turn ≡ End
+    pub it-ends : 3 * length text + 1 ≤ n → stepIn answer most sizes machine .answer ≡ End
     it-ends h = ends n (3 * length text + 1) (started input output text) at-start h
 
     pub so-all-is-written : 3 * length text + 1 ≤ n → machine .written ≡ answersTo answer (length input) (linesOf text)

@@ -2,15 +2,17 @@
 use Prim.Native.Nat.{ℕ, _+_, _-_, _≤_, zero-le}
 use mathlib.Core.Bool.{_||_}
 use mathlib.Core.List.{List}
-use mathlib.Core.Path.{_≡_, refl, sym, ap, ap₂, subst, _∙_}
+use mathlib.Core.Path.{_≡_, refl, sym, ap, subst, _∙_}
 use native.Mathlib.Omega.{arith}
 use lib.Dec.{ltb, eqb}
 use lib.ListN.{length, take, drop}
 use borrow.Author.Tests.{ltb-true, ltb-false}
 use denote.Ref.{now}
 use Rattle.texts.proofs.Claims.{next-within}
+use Rattle.laws.proofs.Determined.{Determined, same}
 use Rattle.laws.proofs.If.{if-cases}
-use Rattle.lines.specs.Reader.{Outcome, inside, newline, lineEnds, inputEnds, count, refill, took, taken}
+use Rattle.laws.specs.Outcome.{Outcome}
+use Rattle.lines.specs.Reader.{inOrder, newline, lineEnds, inputEnds, count, refill, took, taken}
 use Rattle.lines.specs.Turns.{Next, Step, begun, fedState, answeredState, turnOf, nextTurn, line, stepped, stepOf}
 use Rattle.lines.specs.declared.reader.Reader.{Reader}
 use Rattle.lines.specs.declared.reader.Taken.{Taken}
@@ -18,29 +20,25 @@ use Rattle.lines.specs.declared.reader.Taken.the-variants.{Line, More, E
 use Rattle.lines.specs.declared.turns.State.{State}
 use Rattle.lines.specs.declared.turns.Turn.{Turn}
 use Rattle.lines.specs.declared.turns.Turn.the-variants as Turn
-use Rattle.lines.proofs.turns.begin.Reads as begin
-use Rattle.lines.proofs.turns.fed.Reads as fed
-use Rattle.lines.proofs.turns.answered.Reads as answered
-use Rattle.lines.proofs.turns.next.Reads as next
+use Rattle.lines.proofs.turns.begin.Reads.{Post as Begin}
+use Rattle.lines.proofs.turns.fed.Reads.{Post as Fed}
+use Rattle.lines.proofs.turns.answered.Reads.{Post as Answered}
+use Rattle.lines.proofs.turns.next.Reads.{Post as Next-turn}
 
--- No contract leaves a choice: of equal arguments it allows one result, and one last content of the buffer. `Post` is the
--- contract itself, as Rattle reads it off the source, at arguments `a`, a result `r` and parameters at exit `s`.
-pub begin-determined : (κs : _) (a a′ : _) (r r′ : State) (s s′ : _) → begin.Post κs a r s → begin.Post κs a′ r′ s′ → r ≡ r′
-begin-determined κs a a′ r r′ s s′ p q = p ∙ sym q
+-- Each contract leaves no choice: of equal arguments it allows one result, and one last content of the buffer. `Post` is the contract itself, as
+-- Rattle reads it off the source.
 
-pub fed-determined : (κs : _) (a a′ : _) (r r′ : State) (s s′ : _) → fed.Post κs a r s → fed.Post κs a′ r′ s′ →
-    a .0 ≡ a′ .0 → a .1 .0 ≡ a′ .1 .0 → r ≡ r′
-fed-determined κs a a′ r r′ s s′ p q state got = p ∙ ap₂ fedState state got ∙ sym q
+pub begin-determined : Determined (Unit {0}) State Begin (λ _ a. tt) (λ _ r s. r)
+begin-determined = same (λ _. begun) (λ _ a r s p. p)
 
-pub answered-determined : (κs : _) (a a′ : _) (r r′ : State) (s s′ : _) → answered.Post κs a r s → answered.Post κs a′ r′ s′ →
-    a .0 ≡ a′ .0 → a .1 .0 ≡ a′ .1 .0 → r ≡ r′
-answered-determined κs a a′ r r′ s s′ p q state end = p ∙ ap₂ answeredState state end ∙ sym q
+pub fed-determined : Determined (State × ℕ) State Fed (λ _ a. (a .0, a .1 .0)) (λ _ r s. r)
+fed-determined = same (λ x. fedState (x .0) (x .1)) (λ _ a r s p. p)
 
-pub next-determined : (κs : _) (a a′ : _) (t t′ : Turn) (s s′ : _) → next.Post κs a t s → next.Post κs a′ t′ s′ →
-    a .0 ≡ a′ .0 → a .1 .0 ≡ a′ .1 .0 → now (a .1 .1 .0) ≡ now (a′ .1 .1 .0) →
-    _≡_ {A = Next} (record { turn = t; input = now (s .1 .1 .0) }) (record { turn = t′; input = now (s′ .1 .1 .0) })
-next-determined κs a a′ t t′ s s′ p q state most input =
-    p ∙ ap₂ (λ (x : State) (y : ℕ). nextTurn x y (now (a .1 .1 .0))) state most ∙ ap (nextTurn (a′ .0) (a′ .1 .0)) input ∙ sym q
+pub answered-determined : Determined (State × ℕ) State Answered (λ _ a. (a .0, a .1 .0)) (λ _ r s. r)
+answered-determined = same (λ x. answeredState (x .0) (x .1)) (λ _ a r s p. p)
+
+pub next-determined : Determined (State × ℕ × List ℕ) Next Next-turn (λ _ a. (a .0, a .1 .0, now (a .1 .1 .0))) (λ _ r s. record { answer = r; out = now (s .1 .1 .0) })
+next-determined = same (λ x. nextTurn (x .0) (x .1) (x .2)) (λ _ a r s p. p)
 
 -- A line that is handed out lies in the buffer, and so does the place to read into.
 abbrev pub Within : Taken → ℕ → Type 0
@@ -59,45 +57,45 @@ last-within h n s e =
 refill-within : (h : Reader) (b : List ℕ) → h .end ≤ length b → Within (refill h b .answer) (length b)
 unfolding refill
 refill-within h b e =
-    if-cases (λ (o : Outcome). Within (o .answer) (length b)) (h .long || eqb (count h) (length b)) _ _
+    if-cases (λ (o : Outcome Taken (List ℕ)). Within (o .answer) (length b)) (h .long || eqb (count h) (length b)) _ _
     (λ l. zero-le) (λ l. omega arith)
 
 took-within : (h : Reader) (b : List ℕ) → h .start ≤ h .seen → h .start ≤ h .end → h .end ≤ length b → Within (took h b .answer) (length b)
 unfolding took
 took-within h b s t e =
-    if-cases (λ (o : Outcome). Within (o .answer) (length b)) (ltb (newline h b) (h .end)) _ _
+    if-cases (λ (o : Outcome Taken (List ℕ)). Within (o .answer) (length b)) (ltb (newline h b) (h .end)) _ _
     (λ l. line-within h (newline h b) (newline h b + 1) (length b) (omega arith) (omega (arith, ltb-true (newline h b) (h .end) l)))
-    (λ l. if-cases (λ (o : Outcome). Within (o .answer) (length b)) (h .over) _ _
+    (λ l. if-cases (λ (o : Outcome Taken (List ℕ)). Within (o .answer) (length b)) (h .over) _ _
     (λ o. last-within h (length b) t e) (λ o. refill-within h b e))
 
 pub within : (r : Reader) (b : List ℕ) → Within (taken r b .answer) (length b)
 unfolding taken
-within r b = took-within (inside r (length b)) b (omega arith) (omega arith) (omega arith)
+within r b = took-within (inOrder r (length b)) b (omega arith) (omega arith) (omega arith)
 
 -- What a turn asks for lies in its buffer: the places of the input's `n` bytes, and of the output no more than what waits there. A line is
 -- answered where no more than `most` bytes wait.
-abbrev pub Placed : Turn → ℕ → ℕ → ℕ → Type 0
-Placed (Turn.Line from to next) n most waiting = (from ≤ to) × (to ≤ n) × (next .waiting ≤ most) × (next .waiting ≡ waiting)
-Placed (Turn.Write bytes next) n most waiting = (bytes ≡ waiting) × (next .waiting ≡ 0)
-Placed (Turn.Read at next) n most waiting = (at ≤ n) × (next .waiting ≡ 0)
-Placed Turn.End n most waiting = Unit {0}
+abbrev pub InPlace : Turn → ℕ → ℕ → ℕ → Type 0
+InPlace (Turn.Line from to next) n most waiting = (from ≤ to) × (to ≤ n) × (next .waiting ≤ most) × (next .waiting ≡ waiting)
+InPlace (Turn.Write bytes next) n most waiting = (bytes ≡ waiting) × (next .waiting ≡ 0)
+InPlace (Turn.Read at next) n most waiting = (at ≤ n) × (next .waiting ≡ 0)
+InPlace Turn.End n most waiting = Unit {0}
 
 module _ (s : State) (most : ℕ) where
-  of-taken : (t : Taken) (n : ℕ) → s .waiting ≤ most → Within t n → Placed (turnOf s t) n most (s .waiting)
+  of-taken : (t : Taken) (n : ℕ) → s .waiting ≤ most → Within t n → InPlace (turnOf s t) n most (s .waiting)
   of-taken (Line from to r) n h w = (w .0, w .1, h, refl)
-  of-taken (More at r) n h w = if-cases (λ (t : Turn). Placed t n most (s .waiting)) (ltb 0 (s .waiting)) _ _ (λ l. (refl, refl)) (λ l. (w, refl))
-  of-taken End n h w = if-cases (λ (t : Turn). Placed t n most (s .waiting)) (ltb 0 (s .waiting)) _ _ (λ l. (refl, refl)) (λ l. tt)
+  of-taken (More at r) n h w = if-cases (λ (t : Turn). InPlace t n most (s .waiting)) (ltb 0 (s .waiting)) _ _ (λ l. (refl, refl)) (λ l. (w, refl))
+  of-taken End n h w = if-cases (λ (t : Turn). InPlace t n most (s .waiting)) (ltb 0 (s .waiting)) _ _ (λ l. (refl, refl)) (λ l. tt)
 
-  pub placed : (b : List ℕ) → Placed (nextTurn s most b .turn) (length b) most (s .waiting)
+  pub in-place : (b : List ℕ) → InPlace (nextTurn s most b .answer) (length b) most (s .waiting)
   unfolding nextTurn
-  placed b =
-      if-cases (λ (o : Next). Placed (o .turn) (length b) most (s .waiting)) (ltb most (s .waiting)) _ _ (λ l. (refl, refl))
+  in-place b =
+      if-cases (λ (o : Next). InPlace (o .answer) (length b) most (s .waiting)) (ltb most (s .waiting)) _ _ (λ l. (refl, refl))
       (λ l. of-taken (taken (s .reader) b .answer) (length b) (ltb-false most (s .waiting) l) (within (s .reader) b))
 
 -- As a caller of `next` has it at hand: of the turn `t` and the buffer's last content.
-module _ (s : State) (most : ℕ) (b last : List ℕ) (t : Turn) (next : State) (e : record { turn = t; input = last } ≡ nextTurn s most b) (kept : length last ≡ length b) where
-  asked : (u : Turn) → t ≡ u → Placed u (length last) most (s .waiting)
-  asked u k = rw kept (subst (λ (v : Turn). Placed v (length b) most (s .waiting)) (sym (ap (λ (o : Next). o .turn) e) ∙ k) (placed s most b))
+module _ (s : State) (most : ℕ) (b last : List ℕ) (t : Turn) (next : State) (e : record { answer = t; out = last } ≡ nextTurn s most b) (kept : length last ≡ length b) where
+  asked : (u : Turn) → t ≡ u → InPlace u (length last) most (s .waiting)
+  asked u k = rw kept (subst (λ (v : Turn). InPlace v (length b) most (s .waiting)) (sym (ap (λ (o : Next). o .answer) e) ∙ k) (in-place s most b))
 
   pub line-starts : (from to : ℕ) → t ≡ Turn.Line from to next → from ≤ to
   line-starts from to k = asked (Turn.Line from to next) k .0
@@ -126,21 +124,21 @@ Asks (Turn.Read at next) n m = (at ≤ n) × (next .waiting ≤ m)
 Asks Turn.End n m = Unit {0}
 
 module _ (answer : List ℕ → List ℕ) (s : State) (most : ℕ) (input output : List ℕ) (fits : s .waiting ≤ length output) where
-  of-turn : (t : Turn) (b : List ℕ) → Placed t (length input) most (s .waiting) → Asks (stepped answer t b output .turn) (length input) (length output)
+  of-turn : (t : Turn) (b : List ℕ) → InPlace t (length input) most (s .waiting) → Asks (stepped answer t b output .answer) (length input) (length output)
   of-turn (Turn.Line from to next) b p = next-within (line (answer (take (to - from) (drop from b)))) output (next .waiting) (omega (arith, p .3))
   of-turn (Turn.Write bytes next) b p = (omega (arith, p .0), omega (arith, p .1))
   of-turn (Turn.Read at next) b p = (p .0, omega (arith, p .1))
   of-turn Turn.End b p = tt
 
-  pub asks : Asks (stepOf answer s most input output .turn) (length input) (length output)
+  pub asks : Asks (stepOf answer s most input output .answer) (length input) (length output)
   unfolding stepOf
-  asks = of-turn (nextTurn s most input .turn) (nextTurn s most input .input) (placed s most input)
+  asks = of-turn (nextTurn s most input .answer) (nextTurn s most input .out) (in-place s most input)
 
   -- as a program has it at hand: of the turn `t` and the buffers' last contents
-  module _ (t : Turn) (in′ out′ : List ℕ) (next : State) (e : record { turn = t; input = in′; output = out′ } ≡ stepOf answer s most input output)
+  module _ (t : Turn) (in′ out′ : List ℕ) (next : State) (e : record { answer = t; out = (in′, out′) } ≡ stepOf answer s most input output)
       (in-kept : length in′ ≡ length input) (out-kept : length out′ ≡ length output) where
     of-step : (u : Turn) → t ≡ u → Asks u (length in′) (length out′)
-    of-step u k = rw (in-kept, out-kept) (subst (λ (v : Turn). Asks v (length input) (length output)) (sym (ap (λ (o : Step). o .turn) e) ∙ k) asks)
+    of-step u k = rw (in-kept, out-kept) (subst (λ (v : Turn). Asks v (length input) (length output)) (sym (ap (λ (o : Step). o .answer) e) ∙ k) asks)
 
     pub answer-waits : (from to : ℕ) → t ≡ Turn.Line from to next → next .waiting ≤ length out′
     answer-waits from to k = of-step (Turn.Line from to next) k

@@ -10,10 +10,11 @@ use lib.ListN.{length, take, drop, length-append, length-drop}
 use lib.Seq.{length-take-le, take-at, drop-at, append-snoc}
 use borrow.Author.Tests.{ltb-true, ltb-false, eqb-true, eqb-false}
 use Rattle.words.specs.Line.{upTo}
-use Rattle.words.proofs.Parts.{upTo-le}
+use Rattle.words.proofs.Splits.{upTo-le}
 use Rattle.laws.proofs.Joined.{both-false, or-second}
 use Rattle.laws.proofs.If.{if-cases}
-use Rattle.lines.specs.Reader.{Outcome, fedReader, inside, past, lineEnds, inputEnds, count, held, newline, refill, took, taken}
+use Rattle.laws.specs.Outcome.{Outcome}
+use Rattle.lines.specs.Reader.{fedReader, inOrder, past, lineEnds, inputEnds, count, held, newline, refill, took, taken}
 use Rattle.lines.specs.declared.reader.Reader.{Reader}
 use Rattle.lines.specs.declared.reader.Taken.{Taken}
 use Rattle.lines.specs.declared.reader.Taken.the-variants.{Line, More, End}
@@ -40,22 +41,22 @@ pub record Holds (r : Reader) (b c u : List ℕ) (over long : Bool) : Type 0 whe
   pub long-is : r .long ≡ long
 
 -- what a reader answers, of a buffer `b` in which it holds `c` and behind it `u`
-pub data Took (b c u : List ℕ) (over long : Bool) : Outcome → Type 0 where
+pub data Took (b c u : List ℕ) (over long : Bool) : Outcome Taken (List ℕ) → Type 0 where
   -- the line that the first newline ends
   found : (l rest : List ℕ) (from to : ℕ) (next : Reader) → u ≡ l ++ 10 ∷ rest → Free l → length (c ++ l) < length b →
       take (to - from) (drop from b) ≡ lineBytes long (c ++ l) → Holds next b [] rest over false →
-      Took b c u over long (record { answer = Line from to next; buffer = b })
+      Took b c u over long (record { answer = Line from to next; out = b })
   -- the last line, which none ends
   last : (from to : ℕ) (next : Reader) → over ≡ true → Free u → (long ≡ false → 0 < length (c ++ u)) →
       take (to - from) (drop from b) ≡ lineBytes long (c ++ u) → Holds next b [] [] over false →
-      Took b c u over long (record { answer = Line from to next; buffer = b })
+      Took b c u over long (record { answer = Line from to next; out = b })
   -- none is left
-  none-left : over ≡ true → long ≡ false → c ++ u ≡ [] → Took b c u over long (record { answer = End; buffer = b })
+  none-left : over ≡ true → long ≡ false → c ++ u ≡ [] → Took b c u over long (record { answer = End; out = b })
   -- more is to be read, and what is held is dropped, or goes to the front
   dropped : (next : Reader) → over ≡ false → Free u → (long ≡ false → length (c ++ u) ≡ length b) → next .start ≡ 0 → Holds next b [] [] over true →
-      Took b c u over long (record { answer = More 0 next; buffer = b })
+      Took b c u over long (record { answer = More 0 next; out = b })
   kept : (at : ℕ) (next : Reader) (b′ : List ℕ) → over ≡ false → long ≡ false → Free u → at ≡ length (c ++ u) → at < length b → length b′ ≡ length b →
-      next .start ≡ 0 → Holds next b′ (c ++ u) [] over false → Took b c u over long (record { answer = More at next; buffer = b′ })
+      next .start ≡ 0 → Holds next b′ (c ++ u) [] over false → Took b c u over long (record { answer = More at next; out = b′ })
 
 module _ (r : Reader) (b c u : List ℕ) (over long : Bool) (h : Holds r b c u over long) where
   size : length b ≡ length (h .gone) + (length c + (length u + length (h .behind)))
@@ -64,7 +65,7 @@ module _ (r : Reader) (b c u : List ℕ) (over long : Bool) (h : Holds r b c u o
       simp length-append
 
   -- the places are in order
-  in-order : inside r (length b) ≡ r
+  in-order : inOrder r (length b) ≡ r
   in-order =
       let e : min (r .end) (length b) ≡ r .end = omega (arith, size, h .ends) in
       let s : min (r .start) (r .end) ≡ r .start = omega (arith, h .starts, h .ends) in
@@ -108,13 +109,13 @@ module _ (r : Reader) (b c u : List ℕ) (over long : Bool) (h : Holds r b c u o
       (λ t. make (r .start) (rw (sym (h .long-is) ∙ t) e))
 
   at-newline : (l rest : List ℕ) (to : ℕ) → u ≡ l ++ 10 ∷ rest → Free l → to ≡ r .seen + length l →
-      Took b c u over long (record { answer = lineEnds r to (to + 1); buffer = b })
+      Took b c u over long (record { answer = lineEnds r to (to + 1); out = b })
   at-newline l rest to e f p =
       let both : c ++ u ≡ c ++ l ++ 10 ∷ rest = rw (e, append-assoc c l (10 ∷ rest)) in
       let all : b ≡ h .gone ++ (c ++ l ++ 10 ∷ (rest ++ h .behind)) = h .is ∙ rw (e, append-assoc c l (10 ∷ (rest ++ h .behind)), append-assoc l (10 ∷ rest) (h .behind)) in
       let n : length (c ++ l) ≡ length c + length l = length-append c l in
       let u-size : length u ≡ length l + suc (length rest) = ap length e ∙ length-append l (10 ∷ rest) in
-      of-line (λ (k : Taken). Took b c u over long (record { answer = k; buffer = b })) to (to + 1) (c ++ l)
+      of-line (λ (k : Taken). Took b c u over long (record { answer = k; out = b })) to (to + 1) (c ++ l)
       (cut-out b (h .gone) (c ++ l) (10 ∷ (rest ++ h .behind)) (r .start) to all (h .starts) (omega (arith, p, h .sees, n)))
       (λ from k. found l rest from to (past r (to + 1)) e f (omega (arith, size, n, u-size)) k
       (past-it (c ++ l ++ 10 ∷ []) rest (to + 1) (both ∙ sym (append-snoc (c ++ l) 10 rest)) (omega (arith, p, h .sees, n, length-append (c ++ l) (10 ∷ [])))))
@@ -127,10 +128,10 @@ module _ (r : Reader) (b c u : List ℕ) (over long : Bool) (h : Holds r b c u o
       cut-out b (h .gone) (c ++ u) (h .behind) (r .start) (r .end) (h .is ∙ rw (append-assoc c u (h .behind))) (h .starts)
       (omega (arith, h .ends, length-append c u))
 
-  at-the-end : r .over ≡ true → Free u → Took b c u over long (record { answer = inputEnds r; buffer = b })
+  at-the-end : r .over ≡ true → Free u → Took b c u over long (record { answer = inputEnds r; out = b })
   at-the-end o f =
-      if-cases (λ (k : Taken). Took b c u over long (record { answer = k; buffer = b })) (r .long || ltb (r .start) (r .end)) _ _
-      (λ t. of-line (λ (k : Taken). Took b c u over long (record { answer = k; buffer = b })) (r .end) (r .end) (c ++ u) held-is
+      if-cases (λ (k : Taken). Took b c u over long (record { answer = k; out = b })) (r .long || ltb (r .start) (r .end)) _ _
+      (λ t. of-line (λ (k : Taken). Took b c u over long (record { answer = k; out = b })) (r .end) (r .end) (c ++ u) held-is
       (λ from k. last from (r .end) (past r (r .end)) (sym (h .over-is) ∙ o) f
       (λ g. omega (arith, held-size, ltb-true (r .start) (r .end) (or-second (r .long) (ltb (r .start) (r .end)) (h .long-is ∙ g) ∙ t))) k
       (past-it (c ++ u) [] (r .end) (sym (append-nil (c ++ u))) (omega (arith, h .ends, length-append c u)))))
@@ -140,7 +141,7 @@ module _ (r : Reader) (b c u : List ℕ) (over long : Bool) (h : Holds r b c u o
   to-be-read : r .over ≡ false → Free u → Took b c u over long (refill r b)
   unfolding refill
   to-be-read o f =
-      if-cases (λ (k : Outcome). Took b c u over long k) (r .long || eqb (count r) (length b)) _ _
+      if-cases (λ (k : Outcome Taken (List ℕ)). Took b c u over long k) (r .long || eqb (count r) (length b)) _ _
       (λ t. dropped _ (sym (h .over-is) ∙ o) f
       (λ g. omega (arith, held-size, eqb-true (count r) (length b) (or-second (r .long) (eqb (count r) (length b)) (h .long-is ∙ g) ∙ t))) refl
       (record { gone = []; behind = b; is = refl; starts = refl; sees = refl; ends = refl; over-is = h .over-is; long-is = refl }))
@@ -162,12 +163,12 @@ module _ (r : Reader) (b c u : List ℕ) (over long : Bool) (h : Holds r b c u o
   takes-itself : Took b c u over long (took r b)
   unfolding took
   takes-itself =
-      if-cases (λ (k : Outcome). Took b c u over long k) (ltb (newline r b) (r .end)) _ _
+      if-cases (λ (k : Outcome Taken (List ℕ)). Took b c u over long k) (ltb (newline r b) (r .end)) _ _
       (λ t. let n : upTo 10 u < length u = omega (arith, ltb-true (newline r b) (r .end) t, newline-is, h .sees, h .ends) in
       at-newline (take (upTo 10 u) u) (drop (suc (upTo 10 u)) u) (newline r b) (cut-there u n) (free-before u)
       (omega (arith, newline-is, length-take-le (upTo 10 u) u (upTo-le 10 u))))
       (λ t. let f : Free u = free-all u (omega (arith, ltb-false (newline r b) (r .end) t, newline-is, h .sees, h .ends)) in
-      if-cases (λ (k : Outcome). Took b c u over long k) (r .over) _ _ (λ o. at-the-end o f) (λ o. to-be-read o f))
+      if-cases (λ (k : Outcome Taken (List ℕ)). Took b c u over long k) (r .over) _ _ (λ o. at-the-end o f) (λ o. to-be-read o f))
 
   pub takes : Took b c u over long (taken r b)
   unfolding taken

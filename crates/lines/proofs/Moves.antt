@@ -86,7 +86,7 @@ module _ (answer : List ℕ → List ℕ) (most : ℕ) (sizes : ℕ → ℕ) (in
       abbrev put-there : List ℕ
       put-there = take (m .state .waiting) (m .output) ++ reply ++ drop (m .state .waiting + length reply) (m .output)
 
-      there : put reply (m .output) (m .state .waiting) ≡ record { next = m .state .waiting + length reply; out = put-there }
+      there : put reply (m .output) (m .state .waiting) ≡ record { answer = m .state .waiting + length reply; out = put-there }
       there = put-fits reply (m .output) (m .state .waiting) (omega (arith, b .out-size))
 
       front : length (take (m .state .waiting) (m .output) ++ reply) ≡ m .state .waiting + length reply
@@ -111,7 +111,7 @@ module _ (answer : List ℕ → List ℕ) (most : ℕ) (sizes : ℕ → ℕ) (in
           Phase answer (length input) text over false rest (m .text) (m .written ++ take (m .state .waiting) (m .output) ++ reply) →
           Falls turns
           (record {
-            state = answeredState (record { reader = next; waiting = m .state .waiting }) (put reply (m .output) (m .state .waiting) .next);
+            state = answeredState (record { reader = next; waiting = m .state .waiting }) (put reply (m .output) (m .state .waiting) .answer);
             input = m .input;
             output = put reply (m .output) (m .state .waiting) .out;
             written = m .written;

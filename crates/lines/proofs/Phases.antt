@@ -10,10 +10,10 @@ use lib.Seq.{append-snoc}
 use borrow.Author.Tests.{lt-ltb, le-ltb}
 use Rattle.laws.specs.If.{if_then_else_}
 use Rattle.lines.specs.Turns.{line}
-use Rattle.lines.specs.Runs.{linesOf, wholeLines, handed, answersTo}
+use Rattle.lines.specs.Runs.{linesOf, wholeLines, orEmpty, answersTo}
 use Rattle.lines.proofs.Newlines.{Free, free-append, whole-line, lines-line, none-whole, one-line}
 
--- of a line that is too long no bytes are handed out
+-- of a line that is too long no bytes are orEmpty out
 abbrev pub lineBytes : Bool → List ℕ → List ℕ
 lineBytes long l = if long then [] else l
 
@@ -27,7 +27,7 @@ module _ (answer : List ℕ → List ℕ) (size : ℕ) where
   nothing-answered = record { whole = λ rest. refl; all = λ rest. refl }
 
   -- one line more
-  answered-line : (done out l : List ℕ) → Free l → Answered done out → Answered (done ++ (l ++ 10 ∷ [])) (out ++ line (answer (handed size l)))
+  answered-line : (done out l : List ℕ) → Free l → Answered done out → Answered (done ++ (l ++ 10 ∷ [])) (out ++ line (answer (orEmpty size l)))
   unfolding answersTo
   answered-line done out l f a =
       record {
@@ -37,7 +37,7 @@ module _ (answer : List ℕ → List ℕ) (size : ℕ) where
               append-snoc l 10 rest,
               a .whole (l ++ 10 ∷ rest),
               whole-line l rest f,
-              append-assoc out (line (answer (handed size l))) (answersTo answer size (wholeLines rest)),
+              append-assoc out (line (answer (orEmpty size l))) (answersTo answer size (wholeLines rest)),
             );
         all = λ rest.
             rw (
@@ -45,7 +45,7 @@ module _ (answer : List ℕ → List ℕ) (size : ℕ) where
               append-snoc l 10 rest,
               a .all (l ++ 10 ∷ rest),
               lines-line l rest f,
-              append-assoc out (line (answer (handed size l))) (answersTo answer size (linesOf rest)),
+              append-assoc out (line (answer (orEmpty size l))) (answersTo answer size (linesOf rest)),
             );
       }
 
@@ -54,8 +54,8 @@ module _ (answer : List ℕ → List ℕ) (size : ℕ) where
   Dropped true part = size ≤ length part
   Dropped false part = part ≡ []
 
-  -- so what is handed out of a line is what `l` ends it with, or nothing
-  handed-is : (long : Bool) (part l : List ℕ) → Dropped long part → length l < size → handed size (part ++ l) ≡ lineBytes long l
+  -- so what is orEmpty out of a line is what `l` ends it with, or nothing
+  handed-is : (long : Bool) (part l : List ℕ) → Dropped long part → length l < size → orEmpty size (part ++ l) ≡ lineBytes long l
   handed-is true part l d h = rw (le-ltb (length (part ++ l)) size (omega (arith, length-append part l)))
   handed-is false part l d h = rw (d, lt-ltb (length l) size h)
 

@@ -8,10 +8,12 @@ use lib.Dec.{ltb}
 use lib.ListN.{length, take, drop, length-append}
 use borrow.Author.Tests.{ltb-true, ltb-false}
 use Rattle.laws.proofs.If.{if-cases}
-use Rattle.lines.specs.Reader.{Outcome, taken}
+use Rattle.laws.specs.Outcome.{Outcome}
+use Rattle.lines.specs.Reader.{taken}
 use Rattle.lines.specs.Turns.{Next, Step, line, turnOf, nextTurn, stepped, stepOf}
 use Rattle.lines.specs.Runs.{Machine, linesOf, wholeLines, answersTo, done, stepIn}
 use Rattle.lines.specs.declared.reader.Reader.{Reader}
+use Rattle.lines.specs.declared.reader.Taken.{Taken}
 use Rattle.lines.specs.declared.reader.Taken.the-variants as Taken
 use Rattle.lines.specs.declared.turns.Turn.{Turn}
 use Rattle.lines.specs.declared.turns.Turn.the-variants.{Line, Write, Read, End}
@@ -38,9 +40,9 @@ module _ (answer : List ℕ → List ℕ) (most : ℕ) (sizes : ℕ → ℕ) (in
 
     abbrev Says : Step → Type 0
     Says s =
-        Met (s .turn)
-        (done answer most sizes (s .turn)
-        (record { state = m .state; input = s .input; output = s .output; written = m .written; text = m .text; reads = m .reads }))
+        Met (s .answer)
+        (done answer most sizes (s .answer)
+        (record { state = m .state; input = s .out .0; output = s .out .1; written = m .written; text = m .text; reads = m .reads }))
 
     -- the reader is another, and the input's buffer
     abbrev with-reader : Reader → List ℕ → Machine
@@ -73,7 +75,7 @@ module _ (answer : List ℕ → List ℕ) (most : ℕ) (sizes : ℕ → ℕ) (in
       out = m .written ++ take (m .state .waiting) (m .output)
 
       -- the turn that follows of what the reader takes
-      of-took : (o : Outcome) → m .state .waiting ≤ most → Took (m .input) c u over long o → Says (stepped answer (turnOf (m .state) (o .answer)) (o .buffer) (m .output))
+      of-took : (o : Outcome Taken (List ℕ)) → m .state .waiting ≤ most → Took (m .input) c u over long o → Says (stepped answer (turnOf (m .state) (o .answer)) (o .out) (m .output))
       of-took o h (found l rest from to next e f short is k) =
           let whole : c ++ u ≡ c ++ l ++ 10 ∷ rest = rw (e, append-assoc c l (10 ∷ rest)) in
           let sum : length (c ++ u) ≡ length (c ++ l) + suc (length rest) = ap length whole ∙ length-append (c ++ l) (10 ∷ rest) in
@@ -123,6 +125,6 @@ module _ (answer : List ℕ → List ℕ) (most : ℕ) (sizes : ℕ → ℕ) (in
       pub says : Says (stepIn answer most sizes m)
       unfolding stepOf nextTurn
       says =
-          if-cases (λ (n : Next). Says (stepped answer (n .turn) (n .input) (m .output))) (ltb most (m .state .waiting)) _ _
+          if-cases (λ (n : Next). Says (stepped answer (n .answer) (n .out) (m .output))) (ltb most (m .state .waiting)) _ _
           (λ t. wrote answer most sizes input output text turns m c u over long b (omega (arith, ltb-true most (m .state .waiting) t)))
           (λ t. of-took (taken (m .state .reader) (m .input)) (ltb-false most (m .state .waiting) t) (takes (m .state .reader) (m .input) c u over long (b .holds)))

@@ -11,7 +11,7 @@ use Rattle.lines.specs.Runs.{linesOf, wholeLines, Machine, after, starte
 use Rattle.lines.specs.declared.reader.Taken.the-variants.{Line, More, End}
 
 -- nothing is held yet: all of the buffer is to be read into
-first-read : taken freshReader (97 ∷ 98 ∷ []) ≡ record { answer = More 0 freshReader; buffer = 97 ∷ 98 ∷ [] }
+first-read : taken freshReader (97 ∷ 98 ∷ []) ≡ record { answer = More 0 freshReader; out = 97 ∷ 98 ∷ [] }
 unfolding upTo refill taken
 first-read = refl
 
@@ -19,7 +19,7 @@ first-read = refl
 a-line : taken (fedReader freshReader 3) (97 ∷ 10 ∷ 98 ∷ []) ≡
     record {
       answer = Line 0 1 (record { start = 2; seen = 2; end = 3; over = false; long = false });
-      buffer = 97 ∷ 10 ∷ 98 ∷ [];
+      out = 97 ∷ 10 ∷ 98 ∷ [];
     }
 unfolding upTo refill taken
 a-line = refl
@@ -28,7 +28,7 @@ a-line = refl
 to-the-front : taken (record { start = 2; seen = 2; end = 3; over = false; long = false }) (97 ∷ 10 ∷ 98 ∷ []) ≡
     record {
       answer = More 1 (record { start = 0; seen = 1; end = 1; over = false; long = false });
-      buffer = 98 ∷ 10 ∷ 98 ∷ [];
+      out = 98 ∷ 10 ∷ 98 ∷ [];
     }
 unfolding upTo refill taken
 to-the-front = refl
@@ -37,7 +37,7 @@ to-the-front = refl
 last-line : taken (record { start = 2; seen = 2; end = 3; over = true; long = false }) (97 ∷ 10 ∷ 98 ∷ []) ≡
     record {
       answer = Line 2 3 (record { start = 3; seen = 3; end = 3; over = true; long = false });
-      buffer = 97 ∷ 10 ∷ 98 ∷ [];
+      out = 97 ∷ 10 ∷ 98 ∷ [];
     }
 unfolding upTo refill taken
 last-line = refl

@@ -5,6 +5,7 @@ use mathlib.Core.List.{List, _++_}
 use lib.Dec.{ltb, eqb}
 use lib.ListN.{length, take, drop}
 use Rattle.laws.specs.If.{if_then_else_}
+use Rattle.laws.specs.Outcome.{Outcome}
 use Rattle.words.specs.Line.{firstFrom}
 use Rattle.lines.specs.declared.reader.Reader.{Reader}
 use Rattle.lines.specs.declared.reader.Taken.{Taken}
@@ -26,8 +27,8 @@ fedReader r got =
     }
 
 -- the places in order, and within `n` bytes
-abbrev pub inside : Reader → ℕ → Reader
-inside r n =
+abbrev pub inOrder : Reader → ℕ → Reader
+inOrder r n =
     record {
       start = min (r .start) (min (r .end) n);
       seen = max (min (r .start) (min (r .end) n)) (min (r .seen) (min (r .end) n));
@@ -48,11 +49,6 @@ lineEnds r to next = if r .long then Line to to (past r next) else Line (r .star
 abbrev pub inputEnds : Reader → Taken
 inputEnds r = if r .long || ltb (r .start) (r .end) then lineEnds r (r .end) (r .end) else End
 
--- an answer, with what the buffer holds once it is given
-pub record Outcome : Type 0 where
-  pub answer : Taken
-  pub buffer : List ℕ
-
 -- how many bytes are held, and which
 abbrev pub count : Reader → ℕ
 count r = r .end - r .start
@@ -66,27 +62,27 @@ more n over long = More n (record { start = 0; seen = n; end = n; over = over; l
 
 -- What is held goes to the front. Where it is of a line that is too long, or fills the buffer and so shows that its line is, it
 -- is dropped.
-unfoldable pub refill : Reader → List ℕ → Outcome
+unfoldable pub refill : Reader → List ℕ → Outcome Taken (List ℕ)
 refill r buffer =
     if r .long || eqb (count r) (length buffer) then
-    record { answer = more 0 (r .over) true; buffer = buffer }
+    record { answer = more 0 (r .over) true; out = buffer }
     else
-    record { answer = more (count r) (r .over) false; buffer = held r buffer ++ drop (count r) buffer }
+    record { answer = more (count r) (r .over) false; out = held r buffer ++ drop (count r) buffer }
 
 -- the place of the first newline that is held and not yet seen; the end, where there is none
 abbrev pub newline : Reader → List ℕ → ℕ
 newline r buffer = firstFrom 10 (r .seen) (take (r .end) buffer)
 
 -- of a reader whose places are in order and in the buffer
-unfoldable pub took : Reader → List ℕ → Outcome
+unfoldable pub took : Reader → List ℕ → Outcome Taken (List ℕ)
 took r buffer =
     if ltb (newline r buffer) (r .end) then
-    record { answer = lineEnds r (newline r buffer) (newline r buffer + 1); buffer = buffer }
+    record { answer = lineEnds r (newline r buffer) (newline r buffer + 1); out = buffer }
     else if r .over then
-    record { answer = inputEnds r; buffer = buffer }
+    record { answer = inputEnds r; out = buffer }
     else
     refill r buffer
 
-unfoldable pub taken : Reader → List ℕ → Outcome
+unfoldable pub taken : Reader → List ℕ → Outcome Taken (List ℕ)
 unfolding took
-taken r buffer = took (inside r (length buffer)) buffer
+taken r buffer = took (inOrder r (length buffer)) buffer

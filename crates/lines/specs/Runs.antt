@@ -29,8 +29,8 @@ wholeLines [] = []
 wholeLines (b ∷ text) = if eqb b 10 then [] ∷ wholeLines text else before b (wholeLines text)
 
 -- what is answered of a line: one that a buffer of `size` bytes does not hold together with its newline is answered as an empty one
-abbrev pub handed : ℕ → List ℕ → List ℕ
-handed size l = if ltb (length l) size then l else []
+abbrev pub orEmpty : ℕ → List ℕ → List ℕ
+orEmpty size l = if ltb (length l) size then l else []
 
 -- ---- the run of a program whose answer to a line is `answer`
 
@@ -47,7 +47,7 @@ module _ (answer : List ℕ → List ℕ) where
   -- the answers to some lines, a line each
   unfoldable pub answersTo : ℕ → List (List ℕ) → List ℕ
   answersTo size [] = []
-  answersTo size (l ∷ ls) = line (answer (handed size l)) ++ answersTo size ls
+  answersTo size (l ∷ ls) = line (answer (orEmpty size l)) ++ answersTo size ls
 
   -- An answer has room behind `most` bytes of the output. A read hands over what has room in the buffer, or less: the n-th at most
   -- `suc (sizes n)` bytes. So it hands over nothing only at the end of the text.
@@ -79,12 +79,12 @@ module _ (answer : List ℕ → List ℕ) where
     abbrev pub left : Machine → Machine
     left m =
         let s = stepIn m in
-        record { state = m .state; input = s .input; output = s .output; written = m .written; text = m .text; reads = m .reads }
+        record { state = m .state; input = s .out .0; output = s .out .1; written = m .written; text = m .text; reads = m .reads }
 
     -- after so many turns
     unfoldable pub after : ℕ → Machine → Machine
     after zero m = m
-    after (suc n) m = after n (done (stepIn m .turn) (left m))
+    after (suc n) m = after n (done (stepIn m .answer) (left m))
 
 -- nothing is read, written or waiting
 abbrev pub started : List ℕ → List ℕ → List ℕ → Machine

@@ -5,6 +5,7 @@ use lib.Dec.{ltb}
 use lib.ListN.{take, drop}
 use Rattle.texts.specs.Put.{put}
 use Rattle.laws.specs.If.{if_then_else_}
+use Rattle.laws.specs.Outcome.{Outcome}
 use Rattle.lines.specs.Reader.{freshReader, fedReader, taken}
 use Rattle.lines.specs.declared.reader.Reader.{Reader}
 use Rattle.lines.specs.declared.reader.Taken.{Taken}
@@ -37,25 +38,23 @@ turnOf s (Taken.Line from to r) = Line from to (record { reader = r; waiting = s
 turnOf s (Taken.More at r) = if ltb 0 (s .waiting) then writes r (s .waiting) else Read at (record { reader = r; waiting = 0 })
 turnOf s Taken.End = if ltb 0 (s .waiting) then writes (s .reader) (s .waiting) else End
 
--- a turn, with what the input's buffer then holds
-pub record Next : Type 0 where
-  pub turn : Turn
-  pub input : List ℕ
+-- a turn is answered, and the input's buffer then holds this
+abbrev pub Next : Type 0
+Next = Outcome Turn (List ℕ)
 
 -- no answer is put behind more than `most` bytes: they are written first
 unfoldable pub nextTurn : State → ℕ → List ℕ → Next
 nextTurn s most input =
     if ltb most (s .waiting) then
-    record { turn = writes (s .reader) (s .waiting); input = input }
+    record { answer = writes (s .reader) (s .waiting); out = input }
     else
-    record { turn = turnOf s (taken (s .reader) input .answer); input = taken (s .reader) input .buffer }
+    record { answer = turnOf s (taken (s .reader) input .answer); out = taken (s .reader) input .out }
 
 -- ---- a program's step: the next turn, and the answer to its line, if it is one, in the output
 
-pub record Step : Type 0 where
-  pub turn : Turn
-  pub input : List ℕ
-  pub output : List ℕ
+-- a turn is answered, and the buffers of the input and of the output then hold this
+abbrev pub Step : Type 0
+Step = Outcome Turn (List ℕ × List ℕ)
 
 -- an answer is a line of its own
 abbrev pub line : List ℕ → List ℕ
@@ -65,10 +64,10 @@ module _ (answer : List ℕ → List ℕ) where
   abbrev pub stepped : Turn → List ℕ → List ℕ → Step
   stepped (Line from to s) input output =
       let reply = put (line (answer (take (to - from) (drop from input)))) output (s .waiting) in
-      record { turn = Line from to (answeredState s (reply .next)); input = input; output = reply .out }
-  stepped (Write bytes s) input output = record { turn = Write bytes s; input = input; output = output }
-  stepped (Read at s) input output = record { turn = Read at s; input = input; output = output }
-  stepped End input output = record { turn = End; input = input; output = output }
+      record { answer = Line from to (answeredState s (reply .answer)); out = (input, reply .out) }
+  stepped (Write bytes s) input output = record { answer = Write bytes s; out = (input, output) }
+  stepped (Read at s) input output = record { answer = Read at s; out = (input, output) }
+  stepped End input output = record { answer = End; out = (input, output) }
 
   unfoldable pub stepOf : State → ℕ → List ℕ → List ℕ → Step
-  stepOf s most input output = let n = nextTurn s most input in stepped (n .turn) (n .input) output
+  stepOf s most input output = let n = nextTurn s most input in stepped (n .answer) (n .out) output

@@ -1,5 +1,5 @@
-// Lines of text in buffers that the caller lends: what a program that answers each line of its input does
-// next (`next`), turn by turn; and the words of a line, which stand in `line_words`.
+// Lines of text in buffers that the caller lends, for a program that answers each line of its input: what
+// it does next (`next`), turn by turn; and the words of a line, which `words` has.
 //
 // Nothing here reads or writes a file: the program reads into the input's buffer where a turn says, and
 // writes of the output as much as it says. Nothing fails, for any state, buffer or line.

@@ -1,7 +1,7 @@
 // A line at a time, out of a buffer that is refilled.
 ghost use mathlib.Core.Path.{_≡_};
 ghost use Prim.Native.Nat.{_≤_, min, max};
-ghost use Rattle.lines.specs.Reader.{freshReader, fedReader, inside, lineEnds, inputEnds, taken};
+ghost use Rattle.lines.specs.Reader.{freshReader, fedReader, inOrder, lineEnds, inputEnds, taken};
 use crate::refill::make_room;
 use words::find;
 
@@ -61,7 +61,7 @@ pub(crate) fn fed(r: Reader, got: usize) -> Reader
 // The next line of the buffer, or what is to be done to get it. Places of `r` that lie outside the
 // buffer count as its end.
 pub(crate) fn take(r: Reader, buffer: &mut [u8]) -> Taken
-    ensures { λ t. ⌜ record { answer = t; buffer = now (buffer .exit) } ≡ taken r (now (buffer .entry)) ⌝ }
+    ensures { λ t. ⌜ record { answer = t; out = now (buffer .exit) } ≡ taken r (now (buffer .entry)) ⌝ }
 {
     let held = within(r, buffer.len());
     let end = held.end;
@@ -77,7 +77,7 @@ pub(crate) fn take(r: Reader, buffer: &mut [u8]) -> Taken
 
 // The reader with its places in order, and within `n` bytes.
 fn within(r: Reader, n: usize) -> Reader
-    ensures { λ q. ⌜ (q ≡ inside r n) × (q .start ≤ q .seen) × (q .seen ≤ q .end) × (q .end ≤ n) ⌝ }
+    ensures { λ q. ⌜ (q ≡ inOrder r n) × (q .start ≤ q .seen) × (q .seen ≤ q .end) × (q .end ≤ n) ⌝ }
 {
     let end = least(r.end, n);
     let start = least(r.start, end);

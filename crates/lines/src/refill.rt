@@ -10,7 +10,7 @@ use crate::reader::Taken;
 // Makes room to read more: what is held goes to the front, or is dropped.
 pub(crate) fn make_room(r: Reader, buffer: &mut [u8]) -> Taken
     requires { ⌜ (r .start ≤ r .end) × (r .end ≤ length (now buffer)) ⌝ }
-    ensures { λ t. ⌜ record { answer = t; buffer = now (buffer .exit) } ≡ refill r (now (buffer .entry)) ⌝ }
+    ensures { λ t. ⌜ record { answer = t; out = now (buffer .exit) } ≡ refill r (now (buffer .entry)) ⌝ }
 {
     let n = r.end - r.start;
     if r.long {

@@ -59,7 +59,7 @@ pub fn answered(s: State, end: usize) -> State
 
 // What is to be done next, where another answer has room behind `most` bytes and not behind more.
 pub fn next(s: State, most: usize, input: &mut [u8]) -> Turn
-    ensures { λ r. ⌜ record { turn = r; input = now (input .exit) } ≡ nextTurn s most (now (input .entry)) ⌝ }
+    ensures { λ r. ⌜ record { answer = r; out = now (input .exit) } ≡ nextTurn s most (now (input .entry)) ⌝ }
 {
     if most < s.waiting {
         return write(s.reader, s.waiting);

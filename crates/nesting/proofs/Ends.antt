@@ -6,7 +6,7 @@ use mathlib.Core.Path.{_≡_, refl, sym, ap, ap₂, _∙_}
 use native.Mathlib.Omega.{arith}
 use lib.Ieee.{Float, lt}
 use lib.ListN.{length, length-append}
-use Rattle.reduce.specs.Kept.{marksAfter, marksBy, mark}
+use Rattle.reduce.specs.Zoom.{marksAfter, marksBy, mark}
 use Rattle.nesting.proofs.Kept.{marked}
 
 module _ (tolerance : Float) where

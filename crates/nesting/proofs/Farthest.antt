@@ -12,8 +12,7 @@ use Rattle.laws.proofs.Order.{AtLeastZero, at-least-zero, lt-irreflexive, lt-as
 use Rattle.point.specs.Points.{pointAt}
 use Rattle.split.specs.declared.farthest.Far.{Far}
 use Rattle.split.specs.Farthest.{distanceIn, farther, farthest}
-use Rattle.split.specs.inside.Small.{Small}
-use Rattle.split.proofs.Distances.{distance-nonneg, distance-fits}
+use Rattle.split.proofs.Distances.{Small, distance-nonneg, distance-fits}
 use Rattle.split.proofs.Folds.{far, Over, over-first, over-rest, by-test, farther-any}
 use Rattle.split.specs.inside.Spans.{Distance}
 use Rattle.split.specs.Tree.{spanTree}

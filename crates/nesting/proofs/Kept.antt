@@ -11,7 +11,7 @@ use Rattle.laws.proofs.Order.{AtLeastZero}
 use Rattle.laws.specs.Least.{least}
 use Rattle.laws.proofs.Least.{least-at-least-zero, least-cases}
 use Rattle.split.specs.Tree.{Tree, leaf, node, size, cut, down}
-use Rattle.reduce.specs.Kept.{mark}
+use Rattle.reduce.specs.Zoom.{mark}
 use Rattle.split.proofs.Cuts.{cut-kept, cut-dropped}
 use Rattle.nesting.proofs.Tolerances.{below-least}
 use Rattle.split.proofs.Trees.{Each}

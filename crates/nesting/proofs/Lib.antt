@@ -3,7 +3,7 @@
 pub mod Tolerances
 pub mod Farthest
 pub mod Kept
-pub mod Frames
+pub mod Framed
 pub mod Ends
 pub mod Neighbours
 pub mod Nesting

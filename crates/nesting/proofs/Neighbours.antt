@@ -13,7 +13,8 @@ use lib.Ieee.{Float, lt}
 use lib.ListN.{length, getD, replicate, length-append, length-replicate, getD-replicate, List·getD-append, List·getD-eq-default}
 use lib.Seq.{getD-at, getD-append-add}
 use borrow.Author.Tests.{ltb-true, ltb-false}
-use Rattle.split.specs.Tree.{Tree, leaf, node, distanceIn, spanTree, size, cut}
+use Rattle.split.specs.Farthest.{distanceIn}
+use Rattle.split.specs.Tree.{Tree, leaf, node, spanTree, size, cut}
 use Rattle.split.proofs.Cuts.{length-cut, cut-kept, cut-dropped}
 use Rattle.nesting.proofs.Tolerances.{within-goes-down}
 use Rattle.split.proofs.Trees.{middle, reach, split-inside, by-spans}

@@ -15,26 +15,27 @@ use lib.ListN.{length, getD, List·getD-map, List·getD-eq-default}
 use borrow.Author.Tests.{ltb-true, ltb-false, eq-eqb, ne-eqb, le-ltb, not-true, not-false}
 use Rattle.laws.proofs.Compare.{le-is}
 use Rattle.laws.proofs.Finite.{Below, below-number, nonneg-number, infinity-nonneg}
-use Rattle.laws.specs.Finite.{NonNeg}
+use Rattle.laws.specs.inside.Finite.{NonNeg}
 use Rattle.laws.proofs.Order.{AtLeastZero, at-least-zero}
 use Rattle.laws.proofs.Ranges.{between-below}
 use Rattle.point.specs.Limits.{tooMany, badPoints, badSqTolerance, within}
+use Rattle.point.specs.Points.{count, pointAt}
 use Rattle.point.proofs.Claims.{coordinates-fit}
 use Rattle.split.specs.Distance.{sqSegDist}
-use Rattle.split.specs.inside.Small.{Small}
-use Rattle.split.specs.Tree.{count, pointAt, distanceIn, farthest, framed, spanTree, tree, cut, down, marksOf, numbersOf}
-use Rattle.split.proofs.Distances.{distance-below, distance-nonneg}
-use Rattle.split.proofs.Frames.{framed-many, framed-one}
+use Rattle.split.specs.Farthest.{distanceIn, farthest}
+use Rattle.split.specs.Tree.{framed, spanTree, tree, cut, down, marksOf, numbersOf}
+use Rattle.split.proofs.Distances.{Small, distance-below, distance-nonneg}
+use Rattle.split.proofs.Framed.{framed-many, framed-one}
 use Rattle.nesting.proofs.Tolerances.{lower-keeps}
 use Rattle.split.proofs.Trees.{Each, each-map, split-inside}
 use Rattle.nesting.proofs.Farthest.{SmallSpan, at-least, split-greatest, split-earliest, span-distances}
 use Rattle.split.proofs.Claims.{a-mark-for-each-point, a-number-for-each-point}
-use Rattle.reduce.specs.Keep.{shortFor}
-use Rattle.reduce.specs.Kept.{marksBy, mark}
-use Rattle.reduce.specs.Reduce.{douglasPeuckerOf, zoomOf}
+use Rattle.reduce.specs.DouglasPeucker.{douglasPeuckerOf}
+use Rattle.reduce.specs.Kept.{shortFor}
+use Rattle.reduce.specs.Zoom.{marksBy, mark, zoomOf}
 use Rattle.nesting.proofs.Ends.{by-ends, by-end}
 use Rattle.nesting.proofs.Kept.{marked, kept-by-number, down-any, AllIn, all-at, Bit, cut-bits}
-use Rattle.nesting.proofs.Frames.{framed-map, framed-all}
+use Rattle.nesting.proofs.Framed.{framed-map, framed-all}
 use Rattle.nesting.proofs.Neighbours.{whole, span-between}
 
 -- ---- what document 01 takes
@@ -84,7 +85,7 @@ infinity = at-least-zero infinity-nonneg
 
 -- two kept neighbours of a dropped position, by marks that are 1 for each kept and 0 for each dropped one: none between them is kept, and near their
 -- segment it lies
-pub record Near (points : List ℤ) (t : Float) (marks : List ℕ) (k : ℕ) : Type 0 where
+pub record KeptNeighbours (points : List ℤ) (t : Float) (marks : List ℕ) (k : ℕ) : Type 0 where
   pub before : ℕ
   pub after : ℕ
   pub comes-before : before < k
@@ -170,10 +171,10 @@ module _ (points : List ℤ) (i32 : InI32 points) where
 
   -- of any tolerance at all: a NaN is below nothing, so all lies within it, and within a negative one lies nothing, so nothing is dropped
 
-  pub dropped-points-are-near : (t : Float) (k : ℕ) → k < count points → getD (marksOf t points) k 0 ≡ 0 → Near points t (marksOf t points) k
+  pub dropped-points-are-near : (t : Float) (k : ℕ) → k < count points → getD (marksOf t points) k 0 ≡ 0 → KeptNeighbours points t (marksOf t points) k
   dropped-points-are-near t k h e = go (ltb 1 (count points)) refl
     where
-      go : (b : Bool) → ltb 1 (count points) ≡ b → Near points t (marksOf t points) k
+      go : (b : Bool) → ltb 1 (count points) ≡ b → KeptNeighbours points t (marksOf t points) k
       go true c =
           let o : 1 < count points = ltb-true 1 (count points) c in
           let w : marksOf t points ≡ whole points t (spanTree points 0 (count points - 1)) = many o in
@@ -217,9 +218,9 @@ module _ (points : List ℤ) (good : badPoints points ≡ false) where
 
   -- a dropped point lies at most as far as the tolerance from the segment between its kept neighbours
   pub dropped-points-are-near-in-range : (t : Float) → badSqTolerance t ≡ false → (k : ℕ) → k < count points → getD (marksOf t points) k 0 ≡ 0
-      → (n : Near points t (marksOf t points) k) × (le (sqSegDist (pointAt points k) (pointAt points (n .before)) (pointAt points (n .after))) t ≡ true)
+      → (n : KeptNeighbours points t (marksOf t points) k) × (le (sqSegDist (pointAt points k) (pointAt points (n .before)) (pointAt points (n .after))) t ≡ true)
   dropped-points-are-near-in-range t g k h e =
-      let n : Near points t (marksOf t points) k = dropped-points-are-near points (in-i32 points good) t k h e in
+      let n : KeptNeighbours points t (marksOf t points) k = dropped-points-are-near points (in-i32 points good) t k h e in
       let d : Float = sqSegDist (pointAt points k) (pointAt points (n .before)) (pointAt points (n .after)) in
       (n, le-is d t (nonneg-number (distances-are-finite points (in-i32 points good) (n .before) (n .after) k .1)) (no-nan t g) ∙ ap not (n .within-tolerance))
 
@@ -247,11 +248,11 @@ module _ (list : List ℤ) (tolerance : Float) (good : badPoints list ≡ false)
 
   pub zoom-is-douglas-peucker : tooMany (length list) ≡ false → 0 < count list → (out : List ℤ) (marks : List ℕ) → count list ≤ length marks →
       zoomOf list (numbersOf list) tolerance out
-      ≡ record { answer = douglasPeuckerOf list tolerance out marks .answer; out = douglasPeuckerOf list tolerance out marks .out }
+      ≡ record { answer = douglasPeuckerOf list tolerance out marks .answer; out = douglasPeuckerOf list tolerance out marks .out .0 }
   unfolding zoomOf douglasPeuckerOf
   zoom-is-douglas-peucker few some out marks l = go (shortFor (count list) out) refl
     where
       go : (t : Bool) → shortFor (count list) out ≡ t → zoomOf list (numbersOf list) tolerance out
-          ≡ record { answer = douglasPeuckerOf list tolerance out marks .answer; out = douglasPeuckerOf list tolerance out marks .out }
+          ≡ record { answer = douglasPeuckerOf list tolerance out marks .answer; out = douglasPeuckerOf list tolerance out marks .out .0 }
       go true e = rw (few, good, eq-eqb _ _ (a-number-for-each-point list some), ne-eqb (count list) 0 (λ z. omega arith), fine, e)
       go false e = rw (few, good, eq-eqb _ _ (a-number-for-each-point list some), ne-eqb (count list) 0 (λ z. omega arith), fine, e, le-ltb _ _ l, marks-by-numbers)

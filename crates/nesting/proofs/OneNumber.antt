@@ -3,7 +3,7 @@
 -- Said of the two calls: of the numbers that `numbers` leaves in its buffer, and of all that `simplify_douglas_peucker` answers and leaves. It
 -- holds of every list of two points or more and every squared tolerance that document 01 takes, and of buffers that have the room. `Decides` is
 -- the statement, `one-number-per-point` the theorem, and `zooms-nest` and `dropped-points-are-near` follow. Their words are `positions`, `those` and
--- `Thinned` of `Positions`, `Near` of `Nesting`, and those below. Assumes nothing.
+-- `Thinned` of `Positions`, `KeptNeighbours` of `Nesting`, and those below. Assumes nothing.
 use Prim.Native.Nat.{ℕ, suc, _+_, _-_, _*_, _≤_, _<_}
 use mathlib.Core.Bool.{Bool, true, false}
 use mathlib.Core.List.{List, [], _∷_, _++_, map, map-map, append-nil, append-assoc}
@@ -16,8 +16,10 @@ use lib.Seq.{getD-at}
 use borrow.Author.Tests.{ne-eqb, le-ltb}
 use Rattle.laws.specs.If.{if_then_else_}
 use Rattle.laws.specs.Lists.{over}
+use Rattle.laws.specs.Outcome.{Outcome}
 use Rattle.laws.proofs.Lists.{getD-over-front, take-over-all}
 use Rattle.point.specs.Refusals.{countOf}
+use Rattle.point.specs.declared.refusal.Answer.{Answer}
 use Rattle.point.specs.declared.refusal.Answer.the-variants.{Done}
 use Rattle.point.specs.Limits.{tooMany, badPoints, badSqTolerance}
 use Rattle.point.specs.Points.{flat, points, count, pointAt}
@@ -26,13 +28,14 @@ use Rattle.point.proofs.Flat.{length-points, length-flat, points-flat}
 use Rattle.split.specs.Distance.{sqSegDist}
 use Rattle.split.specs.Tree.{tree, down, marksOf, numbersOf}
 use Rattle.split.proofs.Claims.{a-mark-for-each-point, a-number-for-each-point}
-use Rattle.split.proofs.Frames.{framed-many}
-use Rattle.reduce.specs.Kept.{select, kept, mark}
+use Rattle.split.proofs.Framed.{framed-many}
+use Rattle.reduce.specs.DouglasPeucker.{keptAndMarked, douglasPeuckerOf}
+use Rattle.reduce.specs.Kept.{select, kept}
+use Rattle.reduce.specs.Numbers.{numberedOf}
+use Rattle.reduce.specs.Zoom.{mark}
 use Rattle.reduce.proofs.Select.{kept-many}
-use Rattle.reduce.specs.DouglasPeucker.{split}
-use Rattle.reduce.specs.Reduce.{Marked, Numbered, numberedOf, douglasPeuckerOf}
 use Rattle.nesting.proofs.Kept.{marked}
-use Rattle.nesting.proofs.Nesting.{Near, in-i32, below-infinity, is-kept, kept-exactly-below-its-number, numbers-decide-in-range, zooms-nest-in-range, dropped-points-are-near-in-range}
+use Rattle.nesting.proofs.Nesting.{KeptNeighbours, in-i32, below-infinity, is-kept, kept-exactly-below-its-number, numbers-decide-in-range, zooms-nest-in-range, dropped-points-are-near-in-range}
 use Rattle.nesting.proofs.Positions.{positions, those, Thinned, front, by-position, last-position, those-append, selects, narrowed}
 
 -- ---- the words
@@ -68,8 +71,10 @@ pub record Decides (list : List ℤ) (numbers : List Float) : Type 0 where
       douglasPeuckerOf list tolerance out marks
       ≡ record {
         answer = Done (length (keptPositions list numbers tolerance));
-        out = over (flat (map (pointAt list) (keptPositions list numbers tolerance))) out;
-        marks = over (map (λ k. mark (above tolerance numbers k)) (positions 0 (count list))) marks;
+        out = (
+          over (flat (map (pointAt list) (keptPositions list numbers tolerance))) out,
+          over (map (λ k. mark (above tolerance numbers k)) (positions 0 (count list))) marks,
+        );
       }
   -- the ends carry +infinity, and so both are kept at every tolerance
   pub first-carries-infinity : getD numbers 0 nan ≡ inf false
@@ -80,12 +85,12 @@ pub record Decides (list : List ℤ) (numbers : List Float) : Type 0 where
 -- ---- the words of what follows
 
 -- a call keeps a position: its mark there is 1
-abbrev pub Keeps : Marked → ℕ → Type 0
-Keeps call k = getD (call .marks) k 0 ≡ 1
+abbrev pub Keeps : Outcome Answer (List ℤ × List ℕ) → ℕ → Type 0
+Keeps call k = getD (call .out .1) k 0 ≡ 1
 
 -- the points that a call leaves: as many as it answers, from the start of its buffer
-abbrev pub leftBy : Marked → List PointI32
-leftBy call = points (take (countOf (call .answer) * 2) (call .out))
+abbrev pub leftBy : Outcome Answer (List ℤ × List ℕ) → List PointI32
+leftBy call = points (take (countOf (call .answer) * 2) (call .out .0))
 
 -- ---- the calls, on a list that they take
 
@@ -97,7 +102,7 @@ module _ (list : List ℤ) (few : tooMany (length list) ≡ false) (good : badPo
   numbered buffer h = rw (few, good, ne-eqb (count list) 0 (λ z. omega arith), ne-eqb (count list) 1 (λ z. omega arith), le-ltb _ _ h)
 
   split-done : (tolerance : Float) → badSqTolerance tolerance ≡ false → (out : List ℤ) (marks : List ℕ) → Room list out marks →
-      douglasPeuckerOf list tolerance out marks ≡ split list tolerance out marks
+      douglasPeuckerOf list tolerance out marks ≡ keptAndMarked list tolerance out marks
   unfolding douglasPeuckerOf
   split-done tolerance fine out marks room =
       rw (few, good, ne-eqb (count list) 0 (λ z. omega arith), fine, ne-eqb (count list) 1 (λ z. omega arith), le-ltb _ _ (room .0), le-ltb _ _ (room .1))
@@ -161,8 +166,8 @@ module _ (list : List ℤ) (few : tooMany (length list) ≡ false) (good : badPo
     decides = record {
       at-every-tolerance = λ t fine out marks room.
           split-done t fine out marks room
-          ∙ ap₂ (λ (ps : List PointI32) (ms : List ℕ). record { answer = Done (length ps); out = over (flat ps) out; marks = over ms marks }) (kept-are t fine) (marks-are t fine)
-          ∙ ap (λ (n : ℕ). record { answer = Done n; out = over (flat (map (pointAt list) (keptPositions list numbers t))) out; marks = over (map (λ k. mark (above t numbers k)) (positions 0 (count list))) marks })
+          ∙ ap₂ (λ (ps : List PointI32) (ms : List ℕ). record { answer = Done (length ps); out = (over (flat ps) out, over ms marks) }) (kept-are t fine) (marks-are t fine)
+          ∙ ap (λ (n : ℕ). record { answer = Done n; out = (over (flat (map (pointAt list) (keptPositions list numbers t))) out, over (map (λ k. mark (above t numbers k)) (positions 0 (count list))) marks) })
           (length-map (keptPositions list numbers t) (pointAt list));
       first-carries-infinity = first-infinity;
       last-carries-infinity = last-infinity;
@@ -176,15 +181,15 @@ module _ (list : List ℤ) (few : tooMany (length list) ≡ false) (good : badPo
       (numberedOf list buffer ≡ record { answer = Done (count list); out = over (numbersOf list) buffer }) × Decides list (numberedOf list buffer .out)
   one-number-per-point buffer h = (
     numbered buffer h,
-    subst (λ (l : List Float). Decides list l) (sym (ap (λ (c : Numbered). c .out) (numbered buffer h))) (unfold over in decides (drop (length (numbersOf list)) buffer)),
+    subst (λ (l : List Float). Decides list l) (sym (ap (λ (c : Outcome Answer (List Float)). c .out) (numbered buffer h))) (unfold over in decides (drop (length (numbersOf list)) buffer)),
   )
 
   -- ---- so zooms nest, and dropped points are near
 
   module _ (tolerance : Float) (fine : badSqTolerance tolerance ≡ false) (out : List ℤ) (marks : List ℕ) (room : Room list out marks) where
-    marks-left : (k : ℕ) → k < count list → getD (douglasPeuckerOf list tolerance out marks .marks) k 0 ≡ getD (marksOf tolerance list) k 0
+    marks-left : (k : ℕ) → k < count list → getD (douglasPeuckerOf list tolerance out marks .out .1) k 0 ≡ getD (marksOf tolerance list) k 0
     marks-left k h =
-        ap (λ (c : Marked). getD (c .marks) k 0) (split-done tolerance fine out marks room)
+        ap (λ (c : Outcome Answer (List ℤ × List ℕ)). getD (c .out .1) k 0) (split-done tolerance fine out marks room)
         ∙ getD-over-front (marksOf tolerance list) marks k 0 (omega (arith, a-mark-for-each-point list tolerance (omega arith)))
 
     points-left : leftBy (douglasPeuckerOf list tolerance out marks) ≡ map (pointAt list) (keptPositions list (numbersOf list) tolerance)
@@ -198,8 +203,8 @@ module _ (list : List ℤ) (few : tooMany (length list) ≡ false) (good : badPo
         ∙ ap (λ (l : List Float). map (pointAt list) (keptPositions list l tolerance)) (append-nil (numbersOf list))
 
     -- A point that the call drops lies at most as far as the tolerance from the segment between its kept neighbours.
-    pub dropped-points-are-near : (k : ℕ) → k < count list → getD (douglasPeuckerOf list tolerance out marks .marks) k 0 ≡ 0 →
-        (n : Near list tolerance (douglasPeuckerOf list tolerance out marks .marks) k)
+    pub dropped-points-are-near : (k : ℕ) → k < count list → getD (douglasPeuckerOf list tolerance out marks .out .1) k 0 ≡ 0 →
+        (n : KeptNeighbours list tolerance (douglasPeuckerOf list tolerance out marks .out .1) k)
         × (le (sqSegDist (pointAt list k) (pointAt list (n .before)) (pointAt list (n .after))) tolerance ≡ true)
     dropped-points-are-near k h e =
         let near = dropped-points-are-near-in-range list good tolerance fine k h (sym (marks-left k h) ∙ e) in

@@ -11,7 +11,8 @@ use Rattle.laws.specs.If.{if_then_else_}
 use Rattle.point.specs.Points.{points, count, pointAt}
 use Rattle.point.specs.declared.PointI32.{PointI32}
 use Rattle.point.proofs.Flat.{length-points}
-use Rattle.reduce.specs.Kept.{select, mark}
+use Rattle.reduce.specs.Kept.{select}
+use Rattle.reduce.specs.Zoom.{mark}
 use Rattle.reduce.proofs.Select.{selected, unselected}
 
 -- ---- the words

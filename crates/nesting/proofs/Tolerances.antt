@@ -1,18 +1,34 @@
 -- A tolerance may be any float. Against numbers that are 0 at least it acts in one of three ways: a NaN is below none of them, what is
 -- negative is below all, and what is 0 at least has its place in their order. So what the order says of the last holds of all. Assumes nothing.
-use Prim.Native.Nat.{zero, suc}
+use Prim.Native.Nat.{ℕ, zero, suc, _+_, _*_, _<_}
 use mathlib.Core.Bool.{true, false, _&&_, true≢false}
 use mathlib.Core.Path.{_≡_, refl, sym, _∙_}
-use lib.Ieee.{Float, nan, inf, fin, lt}
-use Rattle.laws.proofs.Order.{AtLeastZero, ge-transitive, lt-le-transitive, le-lt-transitive}
+use native.Mathlib.Nat.{zero-mul, mul-pos, zero-lt-suc}
+use native.Mathlib.Omega.{arith}
+use lib.IntN.{ℤ}
+use lib.Ieee.{Float, nan, inf, fin, up, down, lt}
+use lib.Ieee.Fits.{up-pos, down-pos}
+use borrow.Author.Tests.{lt-ltb}
+use Rattle.laws.proofs.Order.{AtLeastZero, ge-transitive, le-lt-transitive}
 use Rattle.laws.specs.Least.{least}
 use Rattle.laws.proofs.Least.{least-cases, lt-least}
-use Rattle.split.proofs.Distances.{under-all}
 
 data Kind (t : Float) : Type 0 where
   no-number : ((x : Float) → lt t x ≡ false) → Kind t
   negative : ((x : Float) → AtLeastZero x → lt t x ≡ true) → Kind t
   ordered : AtLeastZero t → Kind t
+
+under-all : (m : ℕ) (e : ℤ) (x : Float) → AtLeastZero x → lt (fin true (suc m) e) x ≡ true
+unfolding lt
+under-all m e nan p = absurd (p .zero-or-more)
+under-all m e (inf true) p = absurd (true≢false (p .zero-or-more))
+under-all m e (inf false) p = refl
+under-all m e (fin false n d) p =
+    let h : 0 < suc m * up e * down d = mul-pos (mul-pos (zero-lt-suc m) (up-pos e)) (down-pos d) in
+    lt-ltb 0 (suc m * up e * down d + n * up d * down e) (omega arith)
+under-all m e (fin true n d) p =
+    let h : 0 < suc m * up e * down d = mul-pos (mul-pos (zero-lt-suc m) (up-pos e)) (down-pos d) in
+    rw (p .zero-or-more refl, zero-mul, zero-mul) (lt-ltb 0 (suc m * up e * down d) h)
 
 under-all-infinite : (x : Float) → AtLeastZero x → lt (inf true) x ≡ true
 unfolding lt
@@ -30,15 +46,6 @@ kind (fin true (suc m) e) = negative (under-all m e)
 kind (fin false m e) = ordered (record { zero-or-more = λ h. absurd (true≢false (sym h)) })
 
 module _ (t : Float) {a b : Float} (p : AtLeastZero a) (q : AtLeastZero b) where
-  -- t < a ≤ b
-  pub above-goes-up : lt t a ≡ true → lt b a ≡ false → lt t b ≡ true
-  above-goes-up h k = go (kind t)
-    where
-      go : Kind t → lt t b ≡ true
-      go (no-number n) = absurd (true≢false (sym h ∙ n a))
-      go (negative n) = n b q
-      go (ordered o) = lt-le-transitive o p q h k
-
   -- b ≤ a ≤ t
   pub within-goes-down : lt t a ≡ false → lt a b ≡ false → lt t b ≡ false
   within-goes-down h k = go (kind t)
@@ -47,15 +54,6 @@ module _ (t : Float) {a b : Float} (p : AtLeastZero a) (q : AtLeastZero b) where
       go (no-number n) = n b
       go (negative n) = absurd (true≢false (sym (n a p) ∙ h))
       go (ordered o) = ge-transitive o p q h k
-
-  -- a ≤ t < b
-  pub parted : lt t a ≡ false → lt t b ≡ true → lt a b ≡ true
-  parted h k = go (kind t)
-    where
-      go : Kind t → lt a b ≡ true
-      go (no-number n) = absurd (true≢false (sym k ∙ n b))
-      go (negative n) = absurd (true≢false (sym (n a p) ∙ h))
-      go (ordered o) = le-lt-transitive p o q h k
 
   -- below the least of two: below both
   pub below-least : lt t (least a b) ≡ (lt t a && lt t b)

@@ -1,2 +1,2 @@
-// Why zooms nest: proofs/OneNumber.antt says what one number per point decides. No code: the theorems
-// are about the definitions of the crates that it leans on.
+// For whoever relies on it that zooms nest: why they do. proofs/OneNumber.antt says what one number per
+// point decides. There is no code here: the theorems are about the definitions of the crates beneath.

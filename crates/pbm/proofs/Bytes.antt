@@ -14,10 +14,10 @@ use lib.Seq.{getD-at}
 use borrow.Author.Tests.{lt-ltb, le-ltb, ltb-true}
 use Rattle.laws.specs.Lists.{over}
 use Rattle.laws.proofs.Lists.{over-push}
-use Rattle.chart.specs.Pixels.{rowBytes, bitOf, cell, one}
+use Rattle.chart.specs.Pixels.{rowBytes, bitOf, cell, one, allBytes}
 use Rattle.chart.specs.declared.Chart.{Chart}
-use Rattle.chart.proofs.Digits.{digit}
-use Rattle.chart.proofs.Places.{one-le}
+use Rattle.chart.proofs.OneByte.{digit}
+use Rattle.chart.proofs.BitPlaces.{one-le}
 use Rattle.pbm.specs.Bytes.{packed, byteAt, listed, chartBytes}
 use Rattle.pbm.proofs.RowByRow.{place-column, place-row, place-below}
 
@@ -124,13 +124,13 @@ module _ (c : Chart) (set : ℕ → ℕ → Bool) where
   byte-column : (i x : ℕ) → bitOf (byteAt c set i) x ≡ shown (i % rowBytes (c .width) * 8 + x % 8) (i / rowBytes (c .width))
   byte-column i x = rw byteAt-is (packed-column (λ j. shown (i % rowBytes (c .width) * 8 + j) (i / rowBytes (c .width))) x)
 
-  pub length-chartBytes : length (chartBytes c set) ≡ rowBytes (c .width) * c .height
+  pub length-chartBytes : length (chartBytes c set) ≡ allBytes c
   unfolding chartBytes
-  length-chartBytes = length-listed (rowBytes (c .width) * c .height) (byteAt c set)
+  length-chartBytes = length-listed (allBytes c) (byteAt c set)
 
-  pub chartBytes-at : (i : ℕ) → i < rowBytes (c .width) * c .height → getD (chartBytes c set) i 0 ≡ byteAt c set i
+  pub chartBytes-at : (i : ℕ) → i < allBytes c → getD (chartBytes c set) i 0 ≡ byteAt c set i
   unfolding chartBytes
-  chartBytes-at i h = listed-at (rowBytes (c .width) * c .height) (byteAt c set) i h
+  chartBytes-at i h = listed-at (allBytes c) (byteAt c set) i h
 
 -- ---- the byte of column x of row y, for a row of b bytes
 
@@ -169,9 +169,6 @@ module _ (c : Chart) (set : ℕ → ℕ → Bool) (x y : ℕ) (row : y < c .heig
     pub padding-append : c .width ≤ x → x < rowBytes (c .width) * 8 → cell c (chartBytes c set ++ rest) x y ≡ false
     padding-append h l = cell-shown l ∙ rw (le-ltb x (c .width) h)
 
-  pub cell-chart : x < c .width → cell c (chartBytes c set) x y ≡ set x y
-  cell-chart h = ap (λ (bytes : List ℕ). cell c bytes x y) (sym (append-nil (chartBytes c set))) ∙ cell-append [] h
-
   pub padding-chart : c .width ≤ x → x < rowBytes (c .width) * 8 → cell c (chartBytes c set) x y ≡ false
   padding-chart h l = ap (λ (bytes : List ℕ). cell c bytes x y) (sym (append-nil (chartBytes c set))) ∙ padding-append [] h l
 
@@ -194,7 +191,7 @@ module _ (c : Chart) (set set′ : ℕ → ℕ → Bool) (same : (x y : ℕ) →
       by-test true e = same x y (ltb-true x (c .width) e) h
       by-test false e = refl
 
-  pub byteAt-same : (i : ℕ) → i < rowBytes (c .width) * c .height → byteAt c set i ≡ byteAt c set′ i
+  pub byteAt-same : (i : ℕ) → i < allBytes c → byteAt c set i ≡ byteAt c set′ i
   byteAt-same i h =
       let b = rowBytes (c .width) in
       let row : i / b < c .height = row-of i b (c .height) h in
@@ -207,10 +204,10 @@ module _ (c : Chart) (set set′ : ℕ → ℕ → Bool) (same : (x y : ℕ) →
 
   pub chartBytes-same : chartBytes c set ≡ chartBytes c set′
   unfolding chartBytes
-  chartBytes-same = listed-same (rowBytes (c .width) * c .height) (byteAt c set) (byteAt c set′) byteAt-same
+  chartBytes-same = listed-same (allBytes c) (byteAt c set) (byteAt c set′) byteAt-same
 
 -- of two lists that have a chart's bytes in common
-pub rows-alike : (c : Chart) (p q : List ℕ) → ((i : ℕ) → i < rowBytes (c .width) * c .height → getD p i 0 ≡ getD q i 0) →
+pub rows-alike : (c : Chart) (p q : List ℕ) → ((i : ℕ) → i < allBytes c → getD p i 0 ≡ getD q i 0) →
     chartBytes c (cell c p) ≡ chartBytes c (cell c q)
 unfolding cell rowBytes
 rows-alike c p q same =

@@ -8,11 +8,12 @@ use native.Mathlib.Nat.{add-zero, add-suc, mul-suc, mul-le-mul-left, mod-eq-of-l
 use native.Mathlib.Omega.{arith}
 use lib.ListN.{length, drop, getD, set}
 use lib.Seq.{paste, paste-suc, drop-paste, getD-drop, set-getD}
-use Rattle.chart.specs.Pixels.{side, rowBytes, cell}
+use Rattle.chart.specs.Pixels.{side, rowBytes, cell, allBytes}
 use Rattle.chart.specs.declared.Chart.{Chart}
+use Rattle.chart.proofs.Sizes.{side-within}
 use Rattle.pbm.specs.Bytes.{chartBytes}
 use Rattle.pbm.proofs.Bytes.{length-chartBytes, chartBytes-at}
-use Rattle.pbm.proofs.Copied.{wide-within, byte-whole, byte-last}
+use Rattle.pbm.proofs.Copied.{byte-whole, byte-last}
 
 -- ---- bytes that are alike need not be pasted
 
@@ -40,7 +41,7 @@ module _ (old : List ℕ) (at : ℕ) (s : List ℕ) where
 -- ---- row y of a chart that stands from a place on: all of its bytes are as they should be but the last, of which the padding is cleared
 
 module _ (c : Chart) (old : List ℕ) (at y : ℕ) (small : (k : ℕ) → getD old k 0 < 256) (wide : side (c .width) ≡ true) (row : y < c .height)
-    (room : at + rowBytes (c .width) * c .height ≤ length old) where
+    (room : at + allBytes c ≤ length old) where
   abbrev n : ℕ
   n = rowBytes (c .width)
 
@@ -66,7 +67,7 @@ module _ (c : Chart) (old : List ℕ) (at y : ℕ) (small : (k : ℕ) → getD o
   byte-goes : (v : ℕ) → v ≡ getD old (at + (n * y + (n - 1))) 0 / 2 ^ (n * 8 - c .width) * 2 ^ (n * 8 - c .width) → v ≡ getD s (n * y + (n - 1)) 0
   unfolding rowBytes
   byte-goes v e =
-      let (o, l) = wide-within (c .width) wide in
+      let (o, l) = side-within (c .width) wide in
       let f : (n - 1) * 8 + 8 - c .width ≡ n * 8 - c .width = omega arith in
       e
       ∙ ap (λ (b : ℕ). b / 2 ^ (n * 8 - c .width) * 2 ^ (n * 8 - c .width)) (sym (getD-drop at old (n * y + (n - 1)) 0))
@@ -79,7 +80,7 @@ module _ (c : Chart) (old : List ℕ) (at y : ℕ) (small : (k : ℕ) → getD o
       set (paste old at s (n * y)) (at + (n * y + (n - 1))) v ≡ paste old at s (n * suc y)
   unfolding rowBytes
   row-cleared v e =
-      let (o, l) = wide-within (c .width) wide in
+      let (o, l) = side-within (c .width) wide in
       let k = n * y + (n - 1) in
       let f : suc k ≡ n * suc y = omega (arith, mul-suc n y) in
       let m : length s ≡ n * c .height = length-chartBytes c (cell c (drop at old)) in

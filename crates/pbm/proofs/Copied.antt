@@ -1,7 +1,7 @@
 -- A chart's byte as it is copied: the pixels of its row that it has are its first bits, and behind the last of them nothing is set. And
 -- where in its row the next byte lies. Assumes nothing.
 use Prim.Native.Nat.{ℕ, suc, _+_, _-_, _*_, _/_, _%_, _^_, _≤_, _<_}
-use mathlib.Core.Bool.{true, not, _&&_}
+use mathlib.Core.Bool.{true, _&&_}
 use mathlib.Core.List.{List}
 use mathlib.Core.Path.{_≡_, refl, sym, ap, _∙_}
 use native.Mathlib.Nat.{mul-one, div-one, div-add-mod', mod-lt, mod-self, mod-eq-of-lt, suc-mod}
@@ -15,15 +15,9 @@ use borrow.Author.Tests.{lt-ltb, le-ltb}
 use Rattle.chart.specs.Pixels.{side, rowBytes, bitOf, cell}
 use Rattle.chart.specs.declared.Chart.{Chart}
 use Rattle.chart.proofs.Rows.{cell-byte}
-use Rattle.chart.proofs.Sizes.{side-within, bytes-fit}
-use Rattle.pbm.specs.Bytes.{packed, byteAt}
+use Rattle.chart.proofs.Sizes.{side-within}
+use Rattle.pbm.specs.Bytes.{byteAt}
 use Rattle.pbm.proofs.Bytes.{packed-padded, packed-bits, byteAt-is}
-
-pub wide-within : (n : ℕ) → side n ≡ true → (1 ≤ n) × (n ≤ 512)
-wide-within n h = side-within n (side n) refl (ap not h)
-
-pub all-fit : (w h b : ℕ) → side w ≡ true → side h ≡ true → b ≡ rowBytes w → Fits w64 (b * h)
-all-fit w h b p q e = bytes-fit w h b e (wide-within w p .1) (wide-within h q .1)
 
 -- ---- byte i, of which the first n pixels are its row's
 
@@ -60,11 +54,11 @@ module _ (c : Chart) (pixels : List ℕ) (i : ℕ) (small : getD pixels i 0 < 25
 module _ (width i x : ℕ) (wide : side width ≡ true) (column : x ≡ i % rowBytes width * 8) where
   pub place-in-row : i % rowBytes width < rowBytes width
   unfolding rowBytes
-  place-in-row = mod-lt i (omega (arith, wide-within width wide))
+  place-in-row = mod-lt i (omega (arith, side-within width wide))
 
   pub column-fits : Fits w64 (x + 8)
   unfolding rowBytes
-  column-fits = record { fits = omega (arith, place-in-row, wide-within width wide) }
+  column-fits = record { fits = omega (arith, place-in-row, side-within width wide) }
 
   pub next-column : x + 8 < width → x + 8 ≡ (i + 1) % rowBytes width * 8
   unfolding rowBytes

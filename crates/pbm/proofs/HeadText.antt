@@ -1,5 +1,5 @@
 -- The header of a picture: how long it is, and with it the picture, and that what is put part by part is its text. Assumes nothing.
-use Prim.Native.Nat.{ℕ, zero, suc, _+_, _*_, _/_, _%_, _^_, _≤_, _<_}
+use Prim.Native.Nat.{ℕ, zero, suc, _+_, _/_, _%_, _^_, _≤_, _<_}
 use mathlib.Core.Bool.{Bool, true, false}
 use mathlib.Core.List.{List, [], _∷_, _++_, append-assoc}
 use mathlib.Core.Path.{_≡_, refl, sym, ap, subst, _∙_}
@@ -12,15 +12,15 @@ use borrow.Author.Tests.{ltb-false}
 use Rattle.laws.specs.If.{if_then_else_}
 use Rattle.laws.specs.Lists.{over}
 use Rattle.laws.proofs.Lists.{length-over}
-use Rattle.chart.specs.Pixels.{side, rowBytes, cell}
+use Rattle.chart.specs.Pixels.{cell, allBytes, badSides}
 use Rattle.chart.specs.declared.Chart.{Chart}
+use Rattle.chart.proofs.Sizes.{width-within, height-within}
 use Rattle.texts.specs.Text.{glyphOf, decimalDigits, naturalText}
-use Rattle.texts.specs.Put.{Outcome, put}
+use Rattle.texts.specs.Put.{Placed, put}
 use Rattle.texts.proofs.Pieces.{put-fits, put-then, second-fits}
 use Rattle.pbm.specs.Bytes.{chartBytes}
-use Rattle.pbm.specs.Calls.{headText, pictureText}
+use Rattle.pbm.specs.Write.{headText, pictureText}
 use Rattle.pbm.proofs.Bytes.{length-chartBytes}
-use Rattle.pbm.proofs.Copied.{wide-within}
 
 -- ---- its length
 
@@ -40,16 +40,16 @@ digits-most (suc k) (suc most) n h = by-test (ltb n 10) (digits-most k most (n /
     by-test true l = omega arith
     by-test false l = omega (arith, length-append (decimalDigits most (n / 10)) (glyphOf (n % 10) ∷ []))
 
-side-digits : (n : ℕ) → side n ≡ true → length (naturalText n) ≤ 3
-side-digits n h = digits-most 2 20 n (omega (arith, wide-within n h))
+few-digits : (n : ℕ) → n ≤ 512 → length (naturalText n) ≤ 3
+few-digits n h = digits-most 2 20 n (omega arith)
 
 pub head-length : (c : Chart) → length (headText c) ≡ length (naturalText (c .width)) + length (naturalText (c .height)) + 5
 head-length c =
     length-append (80 ∷ 52 ∷ 10 ∷ naturalText (c .width) ++ (32 ∷ naturalText (c .height))) (10 ∷ [])
     ∙ omega (arith, length-append (80 ∷ 52 ∷ 10 ∷ naturalText (c .width)) (32 ∷ naturalText (c .height)))
 
-pub head-short : (c : Chart) → side (c .width) ≡ true → side (c .height) ≡ true → length (headText c) ≤ 11
-head-short c w h = omega (arith, head-length c, side-digits (c .width) w, side-digits (c .height) h)
+pub head-short : (c : Chart) → badSides c ≡ false → length (headText c) ≤ 11
+head-short c fine = omega (arith, head-length c, few-digits (c .width) (width-within c fine .1), few-digits (c .height) (height-within c fine .1))
 
 -- with the rows behind it
 module _ (c : Chart) (pixels : List ℕ) where
@@ -57,7 +57,7 @@ module _ (c : Chart) (pixels : List ℕ) where
   unfolding pictureText
   picture-is = refl
 
-  pub picture-length : length (pictureText c pixels) ≡ length (headText c) + rowBytes (c .width) * c .height
+  pub picture-length : length (pictureText c pixels) ≡ length (headText c) + allBytes c
   picture-length =
       ap length picture-is ∙ length-append (headText c) (chartBytes c (cell c pixels))
       ∙ ap (λ (n : ℕ). length (headText c) + n) (length-chartBytes c (cell c pixels))
@@ -65,19 +65,19 @@ module _ (c : Chart) (pixels : List ℕ) where
 -- ---- its parts
 
 -- three bytes stored at the start are put there
-three-put : (a b c : ℕ) (out : List ℕ) → 3 ≤ length out → record { next = 3; out = set (set (set out 0 a) 1 b) 2 c } ≡ put (a ∷ b ∷ c ∷ []) out 0
-three-put a b c out h = ap (λ (l : List ℕ). record { next = 3; out = l }) (sets-eq (a ∷ b ∷ c ∷ []) out 0 h) ∙ sym (put-fits (a ∷ b ∷ c ∷ []) out 0 h)
+three-put : (a b c : ℕ) (out : List ℕ) → 3 ≤ length out → record { answer = 3; out = set (set (set out 0 a) 1 b) 2 c } ≡ put (a ∷ b ∷ c ∷ []) out 0
+three-put a b c out h = ap (λ (l : List ℕ). record { answer = 3; out = l }) (sets-eq (a ∷ b ∷ c ∷ []) out 0 h) ∙ sym (put-fits (a ∷ b ∷ c ∷ []) out 0 h)
 
 -- a text put at the start stands over it
-put-over : (text out last : List ℕ) (r : ℕ) → length text ≤ length out → record { next = r; out = last } ≡ put text out 0 →
+put-over : (text out last : List ℕ) (r : ℕ) → length text ≤ length out → record { answer = r; out = last } ≡ put text out 0 →
     (r ≡ length text) × (last ≡ over text out)
 unfolding over
 put-over text out last r h e =
     let z : 0 + length text ≡ length text = omega arith in
     let room : 0 + length text ≤ length out = omega arith in
-    let f : _≡_ {A = Outcome} (record { next = r; out = last }) (record { next = length text; out = text ++ drop (length text) out }) =
+    let f : _≡_ {A = Placed} (record { answer = r; out = last }) (record { answer = length text; out = text ++ drop (length text) out }) =
     e ∙ put-fits text out 0 room ∙ rw z in
-    (ap (λ (o : Outcome). o .next) f, ap (λ (o : Outcome). o .out) f)
+    (ap (λ (o : Placed). o .answer) f, ap (λ (o : Placed). o .out) f)
 
 module _ (c : Chart) (out : List ℕ) (room : length (headText c) ≤ length out) where
   abbrev first : List ℕ
@@ -103,16 +103,16 @@ module _ (c : Chart) (out : List ℕ) (room : length (headText c) ≤ length out
   pub first-room : 3 + length first ≤ length magic
   first-room = simp length-set (omega (arith, all-length))
 
-  module _ (mid : List ℕ) (m : ℕ) (e : record { next = m; out = mid } ≡ put first magic 3) where
-    both-put : record { next = m; out = mid } ≡ put (80 ∷ 52 ∷ 10 ∷ first) out 0
+  module _ (mid : List ℕ) (m : ℕ) (e : record { answer = m; out = mid } ≡ put first magic 3) where
+    both-put : record { answer = m; out = mid } ≡ put (80 ∷ 52 ∷ 10 ∷ first) out 0
     both-put = put-then (80 ∷ 52 ∷ 10 ∷ []) first out magic mid 0 3 m (omega (arith, all-length)) (three-put 80 52 10 out magic-room) e
 
     pub second-room : m + length second ≤ length mid
     second-room =
-        subst (λ (o : Outcome). o .next + length second ≤ length (o .out)) (sym both-put)
+        subst (λ (o : Placed). o .answer + length second ≤ length (o .out)) (sym both-put)
         (second-fits (80 ∷ 52 ∷ 10 ∷ first) second out 0 (omega (arith, ap length whole)))
 
-    module _ (last : List ℕ) (r : ℕ) (f : record { next = r; out = last } ≡ put second mid m) where
+    module _ (last : List ℕ) (r : ℕ) (f : record { answer = r; out = last } ≡ put second mid m) where
       head-put : (r ≡ length (headText c)) × (last ≡ over (headText c) out)
       head-put =
           put-over (headText c) out last r room

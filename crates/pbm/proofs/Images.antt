@@ -10,48 +10,45 @@ use lib.Dec.{ltb}
 use lib.ListN.{length, getD, drop}
 use mir.Syntax.{w64}
 use mir.Val.{Fits}
-use borrow.Author.Tests.{lt-ltb, le-ltb, ltb-true, ltb-false, not-false}
+use borrow.Author.Tests.{lt-ltb, le-ltb, ltb-true, ltb-false}
 use Rattle.laws.proofs.Joined.{both-false}
-use Rattle.chart.specs.Pixels.{rowBytes, side, cell}
+use Rattle.chart.specs.Pixels.{side, cell, allBytes, badSides, badChart}
 use Rattle.chart.specs.declared.Chart.{Chart}
-use Rattle.chart.proofs.Sizes.{side-within}
+use Rattle.chart.proofs.Sizes.{side-within, good-width, good-height}
 use Rattle.pbm.specs.Header.{Header, rasterIn}
 use Rattle.pbm.specs.Raster.{Digits, rawIn, digitsIn, plainIn, imageIn}
 use Rattle.pbm.specs.inside.Places.{behindDigits, behindImage, hasImage, setOf, imageOf, bitsOf, whole}
 
 -- ---- sides
 
-pub side-most : (n : ℕ) → side n ≡ true → n ≤ 512
-side-most n h = side-within n (side n) refl (ap not h) .1
-
-module _ (b w h : Bool) (says : b ≡ (not w || not h)) (fine : b ≡ false) where
-  pub good-width : w ≡ true
-  good-width = not-false w (both-false (not w) (not h) (sym says ∙ fine) .0)
-
-  pub good-height : h ≡ true
-  good-height = not-false h (both-false (not w) (not h) (sym says ∙ fine) .1)
-
-pub area-fits : (w h : ℕ) → side w ≡ true → side h ≡ true → Fits w64 (w * h)
-area-fits w h p q =
-    let l : w * h ≤ 512 * 512 = mul-le-mul (side-most w p) (side-most h q) in
+pub area-fits : (w h : ℕ) → (not (side w) || not (side h)) ≡ false → Fits w64 (w * h)
+area-fits w h fine =
+    let p = side-within w (good-width (side w) (side h) fine) in
+    let q = side-within h (good-height (side w) (side h) fine) in
+    let l : w * h ≤ 512 * 512 = mul-le-mul (p .1) (q .1) in
     record { fits = omega arith }
+
+-- a chart that is not bad: its size is in range, and each of its rows is there
+pub good-parts : (c : Chart) (pixels : List ℕ) → badChart c pixels ≡ false → (badSides c ≡ false) × (allBytes c ≤ length pixels)
+unfolding badChart
+good-parts c pixels fine = let p = both-false (badSides c) _ fine in (p .0, ltb-false _ _ (p .1))
 
 -- ---- raw
 
 module _ (c : Chart) (raster : List ℕ) where
-  pub raw-short : length raster < rowBytes (c .width) * c .height → rawIn c raster ≡ none
+  pub raw-short : length raster < allBytes c → rawIn c raster ≡ none
   unfolding rawIn
-  raw-short h = rw (lt-ltb (length raster) (rowBytes (c .width) * c .height) h, rawIn)
+  raw-short h = rw (lt-ltb (length raster) (allBytes c) h, rawIn)
 
-  pub raw-whole : rowBytes (c .width) * c .height ≤ length raster
-      → rawIn c raster ≡ some (record { set = cell c raster; rest = drop (rowBytes (c .width) * c .height) raster })
+  pub raw-whole : allBytes c ≤ length raster
+      → rawIn c raster ≡ some (record { set = cell c raster; rest = drop (allBytes c) raster })
   unfolding rawIn
-  raw-whole h = rw (le-ltb (length raster) (rowBytes (c .width) * c .height) h, rawIn)
+  raw-whole h = rw (le-ltb (length raster) (allBytes c) h, rawIn)
 
-  pub raw-enough : hasImage (rawIn c raster) ≡ true → rowBytes (c .width) * c .height ≤ length raster
-  raw-enough has = enough (ltb (length raster) (rowBytes (c .width) * c .height)) refl
+  pub raw-enough : hasImage (rawIn c raster) ≡ true → allBytes c ≤ length raster
+  raw-enough has = enough (ltb (length raster) (allBytes c)) refl
     where
-      enough : (t : Bool) → ltb (length raster) (rowBytes (c .width) * c .height) ≡ t → rowBytes (c .width) * c .height ≤ length raster
+      enough : (t : Bool) → ltb (length raster) (allBytes c) ≡ t → allBytes c ≤ length raster
       enough true e =
           let f : false ≡ true = sym (ap hasImage (raw-short (ltb-true _ _ e))) ∙ has in
           absurd (false≢true f)

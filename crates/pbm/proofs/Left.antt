@@ -1,6 +1,6 @@
 -- What is left behind a part of a file is an end of it: nothing but a front of it was passed. So the place where it stands, the file's
 -- length less its own, gives it back. Assumes nothing.
-use Prim.Native.Nat.{ℕ, _+_, _-_, _*_, _≤_}
+use Prim.Native.Nat.{ℕ, _+_, _-_, _*_}
 use mathlib.Core.Bool.{Bool, true, false, _||_}
 use mathlib.Core.List.{List, [], _∷_, _++_, append-assoc}
 use mathlib.Core.Option.{Option, some, none}
@@ -35,9 +35,6 @@ same-left {bytes} e l = subst (λ (rest : List ℕ). Left bytes rest) e l
 
 pub drop-left : (k : ℕ) (bytes : List ℕ) → Left bytes (drop k bytes)
 drop-left k bytes = record { front = take k bytes; whole = take-append-drop k bytes }
-
-pub left-shorter : (bytes rest : List ℕ) → Left bytes rest → length rest ≤ length bytes
-left-shorter bytes rest l = omega (arith, length-append (l .front) rest, ap length (l .whole))
 
 -- it stands at the place that its length says
 pub left-place : (bytes rest : List ℕ) → Left bytes rest → drop (length bytes - length rest) bytes ≡ rest

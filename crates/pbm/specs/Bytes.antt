@@ -3,7 +3,7 @@ use Prim.Native.Nat.{ℕ, zero, suc, _+_, _*_, _/_, _%_}
 use mathlib.Core.Bool.{Bool, _&&_}
 use mathlib.Core.List.{List, [], _∷_, _++_}
 use lib.Dec.{ltb}
-use Rattle.chart.specs.Pixels.{rowBytes, one}
+use Rattle.chart.specs.Pixels.{rowBytes, one, allBytes}
 use Rattle.chart.specs.declared.Chart.{Chart}
 
 -- n pixels as one number, "the leftmost the highest"
@@ -27,4 +27,4 @@ listed (suc n) f = listed n f ++ (f n ∷ [])
 -- all bytes of a chart
 unfoldable pub chartBytes : Chart → (ℕ → ℕ → Bool) → List ℕ
 unfolding byteAt listed
-chartBytes c set = listed (rowBytes (c .width) * c .height) (byteAt c set)
+chartBytes c set = listed (allBytes c) (byteAt c set)

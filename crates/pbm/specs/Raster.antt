@@ -5,7 +5,7 @@ use mathlib.Core.List.{List, [], _∷_}
 use mathlib.Core.Option.{Option, some, none}
 use lib.Dec.{ltb, eqb}
 use lib.ListN.{length, getD, drop}
-use Rattle.chart.specs.Pixels.{rowBytes, cell}
+use Rattle.chart.specs.Pixels.{rowBytes, cell, allBytes}
 use Rattle.chart.specs.declared.Chart.{Chart}
 use Rattle.pbm.specs.Header.{white, Header, rasterIn}
 
@@ -19,9 +19,9 @@ pub record Image : Type 0 where
 -- rows lie as in a chart, "each padded to whole bytes"; all of them have to be there
 unfoldable pub rawIn : Chart → List ℕ → Option Image
 unfolding rowBytes cell
-rawIn c raster = elim (ltb (length raster) (rowBytes (c .width) * c .height)) [
+rawIn c raster = elim (ltb (length raster) (allBytes c)) [
   | true ↦ none
-  | false ↦ some (record { set = cell c raster; rest = drop (rowBytes (c .width) * c .height) raster })
+  | false ↦ some (record { set = cell c raster; rest = drop (allBytes c) raster })
 ]
 
 -- ---- plain

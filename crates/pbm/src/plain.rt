@@ -6,7 +6,7 @@ ghost use mathlib.Core.Path.{_≡_};
 ghost use lib.Dec.{eqb};
 ghost use lib.ListN.{length, getD, drop};
 ghost use Rattle.laws.specs.Lists.{over};
-ghost use Rattle.chart.specs.Pixels.{rowBytes, side};
+ghost use Rattle.chart.specs.Pixels.{allBytes, badSides};
 ghost use Rattle.pbm.specs.Bytes.{packed, chartBytes};
 ghost use Rattle.pbm.specs.Raster.{digitsIn};
 ghost use Rattle.pbm.specs.inside.Places.{placeOf, behindDigits, bitsOf, whole};
@@ -47,7 +47,7 @@ pub(crate) fn digits_end(file: &[u8], from: usize, n: usize) -> Place
 // Puts the pixels of all rows into a chart's bytes; they are all there. `x` is the first column of the byte
 // at hand.
 pub(crate) fn pack_rows(file: &[u8], from: usize, chart: Chart, pixels: &mut [u8])
-    requires { ⌜ (side (chart .width) ≡ true) × (side (chart .height) ≡ true) × (rowBytes (chart .width) * chart .height ≤ length (now pixels))
+    requires { ⌜ (badSides chart ≡ false) × (allBytes chart ≤ length (now pixels))
         × (whole (digitsIn (chart .width * chart .height) (drop from (now file))) ≡ true) ⌝ }
     ensures { λ _. ⌜ now (pixels .exit) ≡ over (chartBytes chart
         (λ x y. getD (bitsOf (digitsIn (chart .width * chart .height) (drop from (now (file .entry))))) (y * chart .width + x) false)) (now (pixels .entry)) ⌝ }

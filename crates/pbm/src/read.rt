@@ -1,12 +1,12 @@
 // A picture read into a chart.
 ghost use Prim.Native.Nat.{_*_, _≤_};
-ghost use mathlib.Core.Bool.{true, not, _||_};
+ghost use mathlib.Core.Bool.{true, false};
 ghost use mathlib.Core.Path.{_≡_};
 ghost use lib.ListN.{length, drop};
 ghost use Rattle.laws.specs.Lists.{over};
-ghost use Rattle.chart.specs.Pixels.{rowBytes, side};
+ghost use Rattle.chart.specs.Pixels.{allBytes, badSides};
 ghost use Rattle.pbm.specs.Bytes.{chartBytes};
-ghost use Rattle.pbm.specs.Calls.{readBehind, readOf};
+ghost use Rattle.pbm.specs.Read.{readBehind, readOf};
 ghost use Rattle.pbm.specs.inside.Places.{placeOf, headerAt, imageOf, behindImage, hasImage, setOf};
 use crate::Picture;
 use crate::header::Head;
@@ -23,7 +23,7 @@ use point::Refusal;
 
 // Reads the picture at the start of `file` into `pixels`. All of it is judged before anything is written.
 pub fn read_pbm(file: &[u8], pixels: &mut [u8]) -> Picture
-    ensures { λ r. ⌜ record { answer = r; pixels = now (pixels .exit) } ≡ readOf (now (file .entry)) (now (pixels .entry)) ⌝ }
+    ensures { λ r. ⌜ record { answer = r; out = now (pixels .exit) } ≡ readOf (now (file .entry)) (now (pixels .entry)) ⌝ }
 {
     let Head::Is(head) = read_header(file) else {
         return Picture::Refused(Refusal::BadPicture);
@@ -33,10 +33,10 @@ pub fn read_pbm(file: &[u8], pixels: &mut [u8]) -> Picture
 
 // Reads on behind a header: its sizes are judged first.
 fn read_behind(file: &[u8], head: Header, pixels: &mut [u8]) -> Picture
-    ensures { λ r. ⌜ record { answer = r; pixels = now (pixels .exit) } ≡ readBehind (now (file .entry)) (headerAt (now (file .entry)) head) (now (pixels .entry)) ⌝ }
+    ensures { λ r. ⌜ record { answer = r; out = now (pixels .exit) } ≡ readBehind (now (file .entry)) (headerAt (now (file .entry)) head) (now (pixels .entry)) ⌝ }
 {
     let chart = head.chart;
-    if bad_sides(chart) {
+    if chart::bad_sides(chart) {
         return Picture::Refused(Refusal::BadSize);
     }
     let Place::At(from) = raster(file, head.end) else {
@@ -52,15 +52,9 @@ fn read_behind(file: &[u8], head: Header, pixels: &mut [u8]) -> Picture
     Picture::Read { chart, bytes: end }
 }
 
-fn bad_sides(chart: Chart) -> bool
-    ensures { λ r. ⌜ r ≡ (not (side (chart .width)) || not (side (chart .height))) ⌝ }
-{
-    !(chart::side(chart.width) & chart::side(chart.height))
-}
-
 // The place behind the image; nowhere, if it is not whole.
 fn image_end(file: &[u8], from: usize, plain: bool, chart: Chart) -> Place
-    requires { ⌜ (side (chart .width) ≡ true) × (side (chart .height) ≡ true) × (from ≤ length (now file)) ⌝ }
+    requires { ⌜ (badSides chart ≡ false) × (from ≤ length (now file)) ⌝ }
     ensures { λ r. ⌜ r ≡ placeOf (now (file .entry)) (behindImage (imageOf plain chart (drop from (now (file .entry))))) ⌝ }
 {
     if plain {
@@ -75,7 +69,7 @@ fn image_end(file: &[u8], from: usize, plain: bool, chart: Chart) -> Place
 
 // Lays an image that is whole over the start of `pixels`.
 fn lay(file: &[u8], from: usize, plain: bool, chart: Chart, pixels: &mut [u8])
-    requires { ⌜ (side (chart .width) ≡ true) × (side (chart .height) ≡ true) × (rowBytes (chart .width) * chart .height ≤ length (now pixels))
+    requires { ⌜ (badSides chart ≡ false) × (allBytes chart ≤ length (now pixels))
         × (from ≤ length (now file)) × (hasImage (imageOf plain chart (drop from (now file))) ≡ true) ⌝ }
     ensures { λ _. ⌜ now (pixels .exit) ≡ over (chartBytes chart (setOf (imageOf plain chart (drop from (now (file .entry)))))) (now (pixels .entry)) ⌝ }
 {

@@ -1,14 +1,14 @@
 // A chart written as a raw picture.
-ghost use Prim.Native.Nat.{_+_, _*_, _≤_};
-ghost use mathlib.Core.Bool.{true};
+ghost use Prim.Native.Nat.{_+_, _≤_};
+ghost use mathlib.Core.Bool.{false};
 ghost use mathlib.Core.List.{[], _∷_, _++_};
 ghost use mathlib.Core.Path.{_≡_};
 ghost use lib.ListN.{length};
 ghost use Rattle.laws.specs.Lists.{over};
-ghost use Rattle.chart.specs.Pixels.{rowBytes, side};
+ghost use Rattle.chart.specs.Pixels.{allBytes, badSides};
 ghost use Rattle.texts.specs.Put.{put};
 ghost use Rattle.texts.specs.Text.{naturalText};
-ghost use Rattle.pbm.specs.Calls.{headText, writtenOf};
+ghost use Rattle.pbm.specs.Write.{headText, writtenOf};
 use crate::raw::all_bytes;
 use crate::raw::copy_rows;
 use chart::Chart;
@@ -34,8 +34,8 @@ pub fn write_pbm(chart: Chart, pixels: &[u8], out: &mut [u8]) -> Answer
 
 // How many bytes a picture takes. Its header is put into scratch memory, which 11 bytes are enough for.
 fn file_bytes(chart: Chart) -> usize
-    requires { ⌜ (side (chart .width) ≡ true) × (side (chart .height) ≡ true) ⌝ }
-    ensures { λ r. ⌜ r ≡ length (headText chart) + rowBytes (chart .width) * chart .height ⌝ }
+    requires { ⌜ badSides chart ≡ false ⌝ }
+    ensures { λ r. ⌜ r ≡ length (headText chart) + allBytes chart ⌝ }
 {
     let mut scratch = [0u8; 11];
     put_head(chart, &mut scratch) + all_bytes(chart)
@@ -56,7 +56,7 @@ fn put_head(chart: Chart, out: &mut [u8]) -> usize
 // Puts a size and the byte behind it.
 fn put_size(size: usize, behind: u8, out: &mut [u8], at: usize) -> usize
     requires { ⌜ at + length (naturalText size ++ (behind ∷ [])) ≤ length (now out) ⌝ }
-    ensures { λ r. ⌜ record { next = r; out = now (out .exit) } ≡ put (naturalText size ++ (behind ∷ [])) (now (out .entry)) at ⌝ }
+    ensures { λ r. ⌜ record { answer = r; out = now (out .exit) } ≡ put (naturalText size ++ (behind ∷ [])) (now (out .entry)) at ⌝ }
 {
     let end = texts::put_natural(size as u64, out, at);
     texts::put_byte(behind, out, end)

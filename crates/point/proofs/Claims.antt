@@ -1,5 +1,5 @@
 -- What follows of the contracts, for their readers and their callers. Assumes nothing.
-use mathlib.Core.Path.{_≡_, sym, ap, _∙_, refl, ap₂}
+use mathlib.Core.Path.{_≡_, sym, _∙_, refl}
 use Prim.Native.Nat.{ℕ, zero, suc, _≤_, _%_, _+_, _*_}
 use mathlib.Core.Bool.{Bool, true, false, not, _||_}
 use mathlib.Core.List.{List, [], _∷_}
@@ -16,19 +16,25 @@ use Rattle.point.proofs.refusal.Answer.number.Reads.{Post as Answer-num
 use Rattle.point.proofs.refusal.Answer.count.Reads.{Post as Answer-count}
 use Rattle.laws.proofs.Integers.{range-true}
 use Rattle.laws.proofs.Joined.{both-true, both-false}
-use Rattle.point.specs.Limits.{every, inRange, inRangeF64, badList, badPoints, badPointsF64, badTolerance, badSqTolerance, tooMany, placesFor}
+use Rattle.point.specs.Limits.{every, inRange, pointInRange, within, inRangeF64, pointInRangeF64, badList, badPoints, badPointsF64, badTolerance, badSqTolerance, tooMany, placesFor}
 use Rattle.point.proofs.limits.too_many.Reads.{Post as Too-many}
 use Rattle.point.proofs.limits.in_range.Reads.{Post as In-range}
 use Rattle.point.proofs.limits.in_range_f64.Reads.{Post as In-range-f64}
+use Rattle.point.proofs.limits.point_in_range.Reads.{Post as Point-in-range}
+use Rattle.point.proofs.limits.point_in_range_f64.Reads.{Post as Point-in-range-f64}
+use Rattle.point.proofs.limits.within.Reads.{Post as Within}
 use Rattle.point.proofs.limits.places_for.Reads.{Post as Places-for}
 use Rattle.point.proofs.limits.bad_points.Reads.{Post as Bad-points}
 use Rattle.point.proofs.limits.bad_points_f64.Reads.{Post as Bad-points-f64}
 use Rattle.point.proofs.limits.bad_tolerance.Reads.{Post as Bad-tolerance}
 use Rattle.point.proofs.limits.bad_sq_tolerance.Reads.{Post as Bad-sq-tolerance}
 use Rattle.point.specs.declared.PointI32.{PointI32}
-use Rattle.point.specs.Points.{pointAt, flat}
+use Rattle.point.specs.declared.PointF64.{PointF64}
+use Rattle.point.specs.Points.{pointAt, flat, seen, samePoint}
 use Rattle.point.proofs.list.point_at.Reads.{Post as Point-at}
 use Rattle.point.proofs.list.put.Reads.{Post as Put}
+use Rattle.point.proofs.list.seen.Reads.{Post as Seen}
+use Rattle.point.proofs.vector.same_point.Reads.{Post as Same-point}
 use Rattle.laws.proofs.Lists.{length-over}
 use Rattle.point.specs.declared.refusal.Answer.the-variants.{Done, Refused}
 use Rattle.point.specs.declared.refusal.Refusal.{Refusal}
@@ -41,7 +47,8 @@ use Rattle.laws.proofs.Determined.{Determined, same}
 use Rattle.point.specs.declared.refusal.Answer.{Answer}
 use lib.Ieee.{Float}
 
--- Each contract leaves no choice: of equal arguments it allows one result. `Post` is the contract itself, as Rattle reads it off the source.
+-- ---- Each contract leaves no choice: of equal arguments it allows one answer, and one last content of the buffer. `Post` is the contract
+-- itself, as Rattle reads it off the source, at arguments `a`, a result `r` and parameters at exit `s`.
 
 pub refusal-number-determined : Determined Refusal ℕ Refusal-number (λ _ a. a .0) (λ _ r s. r)
 refusal-number-determined = same refusalNumber (λ _ a r s p. p)
@@ -52,8 +59,6 @@ answer-number-determined = same numberOf (λ _ a r s p. p)
 pub answer-count-determined : Determined Answer ℕ Answer-count (λ _ a. a .0) (λ _ r s. r)
 answer-count-determined = same countOf (λ _ a r s p. p)
 
--- ---- each contract leaves no choice: of equal arguments it allows one result. `Post` is the contract itself, as Rattle reads it off the source.
-
 pub too-many-determined : Determined ℕ Bool Too-many (λ _ a. a .0) (λ _ r s. r)
 too-many-determined = same tooMany (λ _ a r s p. p)
 
@@ -62,6 +67,15 @@ in-range-determined = same inRange (λ _ a r s p. p)
 
 pub in-range-f64-determined : Determined Float Bool In-range-f64 (λ _ a. a .0) (λ _ r s. r)
 in-range-f64-determined = same inRangeF64 (λ _ a r s p. p)
+
+pub point-in-range-determined : Determined PointI32 Bool Point-in-range (λ _ a. a .0) (λ _ r s. r)
+point-in-range-determined = same pointInRange (λ _ a r s p. p)
+
+pub point-in-range-f64-determined : Determined PointF64 Bool Point-in-range-f64 (λ _ a. a .0) (λ _ r s. r)
+point-in-range-f64-determined = same pointInRangeF64 (λ _ a r s p. p)
+
+pub within-determined : Determined (Float × Float × Float) Bool Within (λ _ a. (a .0, a .1 .0, a .1 .1 .0)) (λ _ r s. r)
+within-determined = same (λ x. within (x .0) (x .1) (x .2)) (λ _ a r s p. p)
 
 pub places-for-determined : Determined ℕ ℕ Places-for (λ _ a. a .0) (λ _ r s. r)
 places-for-determined = same placesFor (λ _ a r s p. p)
@@ -77,6 +91,21 @@ bad-tolerance-determined = same badTolerance (λ _ a r s p. p)
 
 pub bad-sq-tolerance-determined : Determined Float Bool Bad-sq-tolerance (λ _ a. a .0) (λ _ r s. r)
 bad-sq-tolerance-determined = same badSqTolerance (λ _ a r s p. p)
+
+pub judge-determined : Determined (List ℤ × ℕ) Verdict Judge (λ _ a. (now (a .0), a .1 .0)) (λ _ r s. r)
+judge-determined = same (λ x. verdict (refusal (x .0) (x .1))) (λ _ a r s p. p)
+
+pub point-at-determined : Determined (List ℤ × ℕ) PointI32 Point-at (λ _ a. (now (a .0), a .1 .0)) (λ _ r s. r)
+point-at-determined = same (λ x. pointAt (x .0) (x .1)) (λ _ a r s p. p)
+
+pub put-determined : Determined (PointI32 × ℕ × List ℤ) (List ℤ) Put (λ _ a. (a .0, a .1 .0, now (a .1 .1 .0))) (λ _ r s. now (s .1 .1 .0))
+put-determined = same (λ x. set (set (x .2) (x .1 * 2) (x .0 .x)) (x .1 * 2 + 1) (x .0 .y)) (λ _ a r s p. p)
+
+pub seen-determined : Determined (ℕ × Bool) ℕ Seen (λ _ a. (a .0, a .1 .0)) (λ _ r s. r)
+seen-determined = same (λ x. seen (x .0) (x .1)) (λ _ a r s p. p)
+
+pub same-point-determined : Determined (PointI32 × PointI32) Bool Same-point (λ _ a. (a .0, a .1 .0)) (λ _ r s. r)
+same-point-determined = same (λ x. samePoint (x .0) (x .1)) (λ _ a r s p. p)
 
 -- ---- what a list that is not refused is
 
@@ -110,33 +139,20 @@ pub coordinates-fit : (xs : List ℤ) → badPoints xs ≡ false → (k : ℕ) �
 coordinates-fit xs good k =
     in-range-abs (getD xs k (pos 0)) (every-at inRange xs (pos 0) (all-fine inRange xs good) refl k)
 
--- ---- each contract leaves no choice: of equal arguments it allows one answer, and one last content of the buffer. `Post` is the contract
--- itself, as Rattle reads it off the source, at arguments `a`, a result `r` and parameters at exit `s`.
-
-pub point-at-determined : Determined (List ℤ × ℕ) PointI32 Point-at (λ _ a. (now (a .0), a .1 .0)) (λ _ r s. r)
-point-at-determined = same (λ x. pointAt (x .0) (x .1)) (λ _ a r s p. p)
-
-stored : PointI32 → ℕ → List ℤ → List ℤ
-stored p k out = set (set out (k * 2) (p .x)) (k * 2 + 1) (p .y)
-
-pub put-determined : Determined (PointI32 × ℕ × List ℤ) (List ℤ) Put (λ _ a. (a .0, a .1 .0, now (a .1 .1 .0))) (λ _ r s. now (s .1 .1 .0))
-unfolding stored
-put-determined = same (λ x. stored (x .0) (x .1) (x .2)) (λ _ a r s p. p)
-
--- the contract leaves no choice: to lists of the same values and to the same room it allows one verdict
-pub judge-determined : Determined (List ℤ × ℕ) Verdict Judge (λ _ a. (now (a .0), a .1 .0)) (λ _ r s. r)
-judge-determined = same (λ x. verdict (refusal (x .0) (x .1))) (λ _ a r s p. p)
-
 -- ---- a refusal changes nothing, whatever was lent
+
+-- where what is done is no refusal, by whatever answer
+pub refusal-leaves-all : {A B : Type 0} (refused : Refusal → A) (o : Option Refusal) (old : B) (done : Outcome A B) (r : Refusal) →
+    (done .answer ≡ refused r → ⊥) → outcome refused o old done .answer ≡ refused r → outcome refused o old done .out ≡ old
+unfolding outcome
+refusal-leaves-all refused (some q) old done r never e = refl
+refusal-leaves-all refused none old done r never e = absurd (never e)
 
 pub refusal-changes-nothing : {B : Type 0} (o : Option Refusal) (old : B) (done : Outcome Answer B) (n : ℕ) → done .answer ≡ Done n →
     (r : Refusal) → outcome Refused o old done .answer ≡ Refused r → outcome Refused o old done .out ≡ old
-unfolding outcome
-refusal-changes-nothing (some q) old done n d r e = refl
-refusal-changes-nothing none old done n d r e =
-    let f : Done n ≡ Refused r = sym d ∙ e in
-    let z : _≡_ {A = ℕ} 0 1 = cc in
-    absurd (omega arith)
+refusal-changes-nothing o old done n d r =
+    refusal-leaves-all Refused o old done r
+    (λ e. let f : Done n ≡ Refused r = sym d ∙ e in let z : _≡_ {A = ℕ} 0 1 = cc in omega arith)
 
 -- ---- a call that hands out points for a list of points
 

@@ -22,23 +22,23 @@ module _ {A : Type 0} (fine : A → Bool) (xs : List A) where
   odd h = rw (ne-eqb _ _ h)
 
   -- the value at i is judged
-  judged : (i : ℕ) (ok said r : Bool) (d : A) → said ≡ fine (getD xs i d) → r ≡ (ok && said) → every fine xs ≡ (ok && every fine (drop i xs)) →
-      i < length xs → every fine xs ≡ (r && every fine (drop (i + 1) xs))
+  judged : (i : ℕ) (ok said : Bool) (d : A) → said ≡ fine (getD xs i d) → every fine xs ≡ (ok && every fine (drop i xs)) →
+      i < length xs → every fine xs ≡ (ok && said && every fine (drop (i + 1) xs))
   unfolding every
-  judged i ok said r d says e inv h = inv ∙ rw (add-one, drop-cons xs i d, ← says, e) (sym (and-assoc ok said _))
+  judged i ok said d says inv h = inv ∙ rw (add-one, drop-cons xs i d, ← says) (sym (and-assoc ok said _))
 
   pub none-left : (i : ℕ) (ok : Bool) → every fine xs ≡ (ok && every fine (drop i xs)) → length xs ≤ i → length xs % 2 ≡ 0 → not ok ≡ badList fine xs
   unfolding badList every
   none-left i ok inv h e = rw (eq-eqb _ _ e, inv, drop-of-length-le, and-true ok)
 
 -- a signed value is handed on by its bits
-pub judged-by-bits : (fine : ℤ → Bool) (xs : List ℤ) (i : ℕ) (ok said r : Bool) → r ≡ (ok && said) → every fine xs ≡ (ok && every fine (drop i xs)) →
+pub judged-by-bits : (fine : ℤ → Bool) (xs : List ℤ) (i : ℕ) (ok said : Bool) → every fine xs ≡ (ok && every fine (drop i xs)) →
     said ≡ fine (toZ w32 (ofZ w32 (getD xs i (pos 0)))) → mag (getD xs i (pos 0)) < 2 ^ 31 → i < length xs →
-    every fine xs ≡ (r && every fine (drop (i + 1) xs))
-judged-by-bits fine xs i ok said r e inv says fits h =
-    judged fine xs i ok said r (pos 0) (says ∙ ap fine (toZ-ofZ w32 (getD xs i (pos 0)) (sfits-of fits))) e inv h
+    every fine xs ≡ (ok && said && every fine (drop (i + 1) xs))
+judged-by-bits fine xs i ok said inv says fits h =
+    judged fine xs i ok said (pos 0) (says ∙ ap fine (toZ-ofZ w32 (getD xs i (pos 0)) (sfits-of fits))) inv h
 
 -- a double that was read
-pub judged-f64 : (fine : Float → Bool) (xs : List Float) (i : ℕ) (ok said r : Bool) → r ≡ (ok && said) → every fine xs ≡ (ok && every fine (drop i xs)) →
-    said ≡ fine (getD xs i nan) → i < length xs → every fine xs ≡ (r && every fine (drop (i + 1) xs))
-judged-f64 fine xs i ok said r e inv says h = judged fine xs i ok said r nan says e inv h
+pub judged-f64 : (fine : Float → Bool) (xs : List Float) (i : ℕ) (ok said : Bool) → every fine xs ≡ (ok && every fine (drop i xs)) →
+    said ≡ fine (getD xs i nan) → i < length xs → every fine xs ≡ (ok && said && every fine (drop (i + 1) xs))
+judged-f64 fine xs i ok said inv says h = judged fine xs i ok said nan says inv h

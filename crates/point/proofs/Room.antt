@@ -42,10 +42,6 @@ places-shorter m n h k = go (eqb m 1) refl
     go true e = rw e (omega (arith, places-enough n))
     go false e = rw e (omega (arith, places-enough n))
 
--- a list that is not empty has a place for its first point
-pub first-fits : (list out : List ℤ) → 0 < count list → placesFor (count list) * 2 ≤ length out → 1 < length out
-first-fits list out o h = omega (arith, places-enough (count list))
-
 pub not-bad : (list : List ℤ) (bad : Bool) → bad ≡ badPoints list → bad ≡ false → badPoints list ≡ false
 not-bad list bad b e = sym b ∙ e
 

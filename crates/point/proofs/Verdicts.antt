@@ -19,11 +19,11 @@ use Rattle.point.proofs.Claims.{whole-points}
 use Rattle.point.specs.Points.{count}
 use Rattle.point.specs.inside.Written.{Handed}
 use Rattle.point.proofs.Room.{places-bounds}
-use Rattle.point.specs.Outcomes.{refusal, verdict, outcome, handed, passed}
+use Rattle.point.specs.Outcomes.{refusal, verdict, passed}
 use Rattle.point.specs.declared.refusal.Verdict.{Verdict}
 use Rattle.point.specs.declared.refusal.Verdict.the-variants.{Fine, Refused as Refused′}
 
-refused-is : (v : Verdict) (o : Option Refusal) (r : Refusal) → v ≡ verdict o → v ≡ Refused′ r → o ≡ some r
+pub refused-is : (v : Verdict) (o : Option Refusal) (r : Refusal) → v ≡ verdict o → v ≡ Refused′ r → o ≡ some r
 refused-is v (some q) r e f = cc
 refused-is v none r e f = cc
 
@@ -31,13 +31,10 @@ pub fine-is : (v : Verdict) (o : Option Refusal) → v ≡ verdict o → v ≡ F
 fine-is v (some q) e f = cc
 fine-is v none e f = refl
 
--- none of three tests refuses
-none-refuses : (a b c : Bool) → (refuse TooMany when a or refuse BadPoint when b or refuse NoRoom when c or none) ≡ none →
-    (a ≡ false) × (b ≡ false) × (c ≡ false)
-none-refuses true b c e = let z : _≡_ {A = ℕ} 0 1 = cc in absurd (omega arith)
-none-refuses false true c e = let z : _≡_ {A = ℕ} 0 1 = cc in absurd (omega arith)
-none-refuses false false true e = let z : _≡_ {A = ℕ} 0 1 = cc in absurd (omega arith)
-none-refuses false false false e = (refl, refl, refl)
+-- where nothing is refused the first test does not hold, and no later one refuses either
+pub passes : (r : Refusal) (t : Bool) (rest : Option Refusal) → (refuse r when t or rest) ≡ none → (t ≡ false) × (rest ≡ none)
+passes r true rest e = let z : _≡_ {A = ℕ} 0 1 = cc in absurd (omega arith)
+passes r false rest e = (refl, e)
 
 -- a list that is short enough, good, and has room is not refused
 pub not-refused : (list : List ℤ) (room : ℕ) → length list ≤ 8192 → badPoints list ≡ false → placesFor (count list) * 2 ≤ room → refusal list room ≡ none
@@ -46,18 +43,25 @@ not-refused list room few good places =
 
 module _ (list : List ℤ) (room : ℕ) (v : Verdict) (says : v ≡ verdict (refusal list room)) where
   module _ (fine : v ≡ Fine) where
-    tests : (tooMany (length list) ≡ false) × (badPoints list ≡ false) × (ltb room (placesFor (count list) * 2) ≡ false)
-    tests =
-        none-refuses (tooMany (length list)) (badPoints list) (ltb room (placesFor (count list) * 2)) (fine-is v (refusal list room) says fine)
+    abbrev no-room : Bool
+    no-room = ltb room (placesFor (count list) * 2)
+
+    first : (tooMany (length list) ≡ false) × ((refuse BadPoint when badPoints list or refuse NoRoom when no-room or none) ≡ none)
+    first =
+        passes TooMany (tooMany (length list)) (refuse BadPoint when badPoints list or refuse NoRoom when no-room or none)
+        (fine-is v (refusal list room) says fine)
+
+    second : (badPoints list ≡ false) × ((refuse NoRoom when no-room or none) ≡ none)
+    second = passes BadPoint (badPoints list) (refuse NoRoom when no-room or none) (first .1)
 
     pub few : length list ≤ 8192
-    few = ltb-false 8192 (length list) (tests .0)
+    few = ltb-false 8192 (length list) (first .0)
 
     pub good : badPoints list ≡ false
-    good = tests .1
+    good = second .0
 
     pub places : placesFor (count list) * 2 ≤ room
-    places = ltb-false room (placesFor (count list) * 2) (tests .2)
+    places = ltb-false room (placesFor (count list) * 2) (passes NoRoom no-room none (second .1) .0)
 
     pub list-fits : length list ≤ room
     list-fits = omega (arith, places, places-bounds (count list), whole-points inRange list good)

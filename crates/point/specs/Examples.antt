@@ -10,7 +10,7 @@ use Rattle.point.specs.Refusals.{refuse_when_or_, numberOf, countOf}
 use Rattle.point.specs.declared.refusal.Answer.the-variants.{Refused}
 use Rattle.point.specs.declared.refusal.Refusal.the-variants.{TooMany, BadPoint, NoRoom, BadFrame, BadPicture}
 use Rattle.point.specs.Limits.{badList, badPoints, badPointsF64, badTolerance, badSqTolerance}
-use Rattle.point.specs.Points.{count, pointAt}
+use Rattle.point.specs.Points.{count, pointAt, seen}
 
 -- two apply: the first of the list is given
 lowest : refuse TooMany when false or refuse BadPoint when true or refuse NoRoom when true or none ≡ some BadPoint
@@ -74,6 +74,13 @@ past-the-end = refl
 
 half-counts-for-nothing : count (pos 1 ∷ pos 2 ∷ pos 3 ∷ []) ≡ 1
 half-counts-for-nothing = refl
+
+-- of five points of a closed list four are looked at, and of none none
+four-of-five : seen 5 true ≡ 4
+four-of-five = refl
+
+none-of-none : seen 0 true ≡ 0
+none-of-none = refl
 
 -- past the end of a list nothing is stored
 half-a-place : set (set (pos 1 ∷ pos 2 ∷ pos 3 ∷ []) 2 (pos 8)) 3 (pos 9) ≡ pos 1 ∷ pos 2 ∷ pos 8 ∷ []

@@ -8,6 +8,8 @@ use lib.Signed.{leZ}
 use lib.ListN.{length}
 use lib.Ieee.{Float, binary64, ofInt, le}
 use Rattle.laws.specs.If.{if_then_else_}
+use Rattle.point.specs.declared.PointF64.{PointF64}
+use Rattle.point.specs.declared.PointI32.{PointI32}
 
 -- a test holds of every value of a list
 unfoldable pub every : {A : Type 0} → (A → Bool) → List A → Bool
@@ -21,6 +23,9 @@ tooMany values = ltb 8192 values
 -- "coordinates -16,383 to 16,383"
 abbrev pub inRange : ℤ → Bool
 inRange v = leZ (negsuc 16382) v && leZ v (pos 16383)
+
+abbrev pub pointInRange : PointI32 → Bool
+pointInRange p = inRange (p .x) && inRange (p .y)
 
 -- "odd count of values, or a coordinate out of range"
 unfoldable pub badList : {A : Type 0} → (A → Bool) → List A → Bool
@@ -37,6 +42,9 @@ within low value high = le low value && le value high
 -- "finite, same range"
 abbrev pub inRangeF64 : Float → Bool
 inRangeF64 v = within (ofInt binary64 (negsuc 16382)) v (ofInt binary64 (pos 16383))
+
+abbrev pub pointInRangeF64 : PointF64 → Bool
+pointInRangeF64 p = inRangeF64 (p .x) && inRangeF64 (p .y)
 
 abbrev pub badPointsF64 : List Float → Bool
 badPointsF64 points = badList inRangeF64 points

@@ -1,8 +1,9 @@
 // The tests that every call makes of what it is handed.
-ghost use mathlib.Core.Bool.{_&&_};
 ghost use mathlib.Core.Path.{_≡_};
-ghost use Rattle.point.specs.Limits.{tooMany, inRange, within, inRangeF64, badPoints, badPointsF64, badTolerance, badSqTolerance, placesFor};
+ghost use Rattle.point.specs.Limits.{tooMany, inRange, pointInRange, within, inRangeF64, pointInRangeF64, badPoints, badPointsF64, badTolerance, badSqTolerance, placesFor};
 ghost use Rattle.point.specs.Outcomes.{refusal, verdict};
+use crate::PointF64;
+use crate::PointI32;
 use crate::refusal::Refusal;
 use crate::refusal::Verdict;
 
@@ -37,7 +38,7 @@ pub fn bad_points(points: &[i32]) -> bool
     let mut fine = true;
     let mut i = 0;
     while i < points.len() {
-        fine = both(fine, in_range(points[i]));
+        fine = fine & in_range(points[i]);
         i += 1;
     }
     !fine
@@ -54,7 +55,7 @@ pub fn bad_points_f64(points: &[f64]) -> bool
     let mut fine = true;
     let mut i = 0;
     while i < points.len() {
-        fine = both(fine, in_range_f64(points[i]));
+        fine = fine & in_range_f64(points[i]);
         i += 1;
     }
     !fine
@@ -96,17 +97,25 @@ pub fn in_range_f64(value: f64) -> bool
     within(-FARTHEST_F64, value, FARTHEST_F64)
 }
 
+// Whether both coordinates of a point are in range.
+pub fn point_in_range(p: PointI32) -> bool
+    ensures { λ r. ⌜ r ≡ pointInRange p ⌝ }
+{
+    in_range(p.x) && in_range(p.y)
+}
+
+// Whether both coordinates of a point with fractions are in range.
+pub fn point_in_range_f64(p: PointF64) -> bool
+    ensures { λ r. ⌜ r ≡ pointInRangeF64 p ⌝ }
+{
+    in_range_f64(p.x) && in_range_f64(p.y)
+}
+
 // From `low` to `high`, both counted in. Of a NaN it is false.
-fn within(low: f64, value: f64, high: f64) -> bool
+pub fn within(low: f64, value: f64, high: f64) -> bool
     ensures { λ r. ⌜ r ≡ within low value high ⌝ }
 {
     low <= value && value <= high
-}
-
-fn both(a: bool, b: bool) -> bool
-    ensures { λ r. ⌜ r ≡ (a && b) ⌝ }
-{
-    a && b
 }
 
 // The lowest refusal that applies to a list and to the room for its answer, in values.

@@ -1,11 +1,11 @@
 // A list of points x, y, x, y, read and written one point at a time.
 //
-// Both calls are total: a value that is not there is read as 0, and a place that is not there is
+// The calls are total: a value that is not there is read as 0, and a place that is not there is
 // left out. In a loop that stays below `points.len() / 2` the compiler drops the test of a read.
 ghost use Prim.Native.Nat.{_+_, _*_, _≤_};
 ghost use mathlib.Core.Path.{_≡_};
 ghost use lib.ListN.{set};
-ghost use Rattle.point.specs.Points.{count, pointAt};
+ghost use Rattle.point.specs.Points.{count, pointAt, seen};
 use crate::PointI32;
 
 // The point at a position.
@@ -33,6 +33,16 @@ fn half_point(points: &[i32], k: usize) -> PointI32
         };
     }
     PointI32 { x: 0, y: 0 }
+}
+
+// How many of `n` points are looked at: of a closed list the last, which repeats the first, is not.
+pub fn seen(n: usize, closed: bool) -> usize
+    ensures { λ r. ⌜ r ≡ seen n closed ⌝ }
+{
+    if n == 0 {
+        return 0;
+    }
+    if closed { n - 1 } else { n }
 }
 
 // Writes a point at a position.

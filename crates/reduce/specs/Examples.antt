@@ -4,36 +4,15 @@ use mathlib.Core.List.{[], _∷_}
 use mathlib.Core.Path.{_≡_, refl}
 use lib.IntN.{pos}
 use lib.Ieee.{inf, binary64, ofInt, lt, nan, le, ofBits, add, sub, mul, div, ne, eq}
+use Rattle.point.specs.Limits.{badList}
 use Rattle.point.specs.declared.refusal.Answer.the-variants.{Done, Refused}
 use Rattle.point.specs.declared.refusal.Refusal.the-variants.{NoRoom, BadPoint, TooFew, BadTolerance}
-use Rattle.reduce.specs.Keep.{keptAllOf, keptMarkedOf, keptAboveOf}
-use Rattle.point.specs.Limits.{badList}
-use Rattle.reduce.specs.Zoom.{numberedOf, zoomOf}
-use Rattle.reduce.specs.DouglasPeucker.{douglasPeuckerOf}
 use Rattle.split.specs.Distance.{sqSegDist}
-use Rattle.reduce.specs.Distance.{sqDist}
-use Rattle.reduce.specs.Reduce.{radialOf, reduceOf}
-
-all-kept : keptAllOf (pos 1 ∷ pos 2 ∷ []) (pos 9 ∷ pos 9 ∷ pos 9 ∷ []) ≡ record { answer = Done 1; out = pos 1 ∷ pos 2 ∷ pos 9 ∷ [] }
-unfolding keptAllOf
-all-kept = refl
-
--- the ends of three points, by their marks and by their numbers
-ends-marked : keptMarkedOf (pos 1 ∷ pos 2 ∷ pos 3 ∷ pos 4 ∷ pos 5 ∷ pos 6 ∷ []) (1 ∷ 0 ∷ 1 ∷ []) (pos 9 ∷ pos 9 ∷ pos 9 ∷ pos 9 ∷ pos 9 ∷ pos 9 ∷ [])
-    ≡ record { answer = Done 2; out = pos 1 ∷ pos 2 ∷ pos 5 ∷ pos 6 ∷ pos 9 ∷ pos 9 ∷ [] }
-unfolding keptMarkedOf
-ends-marked = refl
-
-ends-above : keptAboveOf (pos 1 ∷ pos 2 ∷ pos 3 ∷ pos 4 ∷ pos 5 ∷ pos 6 ∷ []) (inf false ∷ ofInt binary64 (pos 7) ∷ inf false ∷ []) (ofInt binary64 (pos 7))
-    (pos 9 ∷ pos 9 ∷ pos 9 ∷ pos 9 ∷ pos 9 ∷ pos 9 ∷ [])
-    ≡ record { answer = Done 2; out = pos 1 ∷ pos 2 ∷ pos 5 ∷ pos 6 ∷ pos 9 ∷ pos 9 ∷ [] }
-unfolding keptAboveOf ofInt lt
-ends-above = refl
-
--- a single point is kept twice, and two places are asked for
-one-place : keptMarkedOf (pos 1 ∷ pos 2 ∷ []) (1 ∷ []) (pos 9 ∷ pos 9 ∷ []) ≡ record { answer = Refused NoRoom; out = pos 9 ∷ pos 9 ∷ [] }
-unfolding keptMarkedOf
-one-place = refl
+use Rattle.reduce.specs.DouglasPeucker.{douglasPeuckerOf}
+use Rattle.reduce.specs.Numbers.{numberedOf}
+use Rattle.reduce.specs.Radial.{sqDist, radialOf}
+use Rattle.reduce.specs.Reduce.{reduceOf}
+use Rattle.reduce.specs.Zoom.{zoomOf}
 
 -- P10, by the numbers of P9: at 16 the ends only, at 15 all
 zoomed-at-16 : zoomOf (pos 0 ∷ pos 0 ∷ pos 8 ∷ pos 2 ∷ pos 0 ∷ pos 4 ∷ pos 8 ∷ pos 0 ∷ []) (inf false ∷ ofInt binary64 (pos 16) ∷ ofInt binary64 (pos 16) ∷ inf false ∷ [])
@@ -70,20 +49,20 @@ one-place-for-numbers = refl
 
 -- "Douglas-Peucker of one point gives it twice", and its mark is one 1
 one-split : douglasPeuckerOf (pos 7 ∷ pos 8 ∷ []) (ofInt binary64 (pos 0)) (pos 9 ∷ pos 9 ∷ pos 9 ∷ pos 9 ∷ []) (5 ∷ 5 ∷ [])
-    ≡ record { answer = Done 2; out = pos 7 ∷ pos 8 ∷ pos 7 ∷ pos 8 ∷ []; marks = 1 ∷ 5 ∷ [] }
+    ≡ record { answer = Done 2; out = (pos 7 ∷ pos 8 ∷ pos 7 ∷ pos 8 ∷ [], 1 ∷ 5 ∷ []) }
 unfolding douglasPeuckerOf badList ofInt le
 one-split = refl
 
 -- "The lowest that applies is given": half a point before no tolerance and no room; no points before no tolerance; no tolerance before no room
-half-a-point : douglasPeuckerOf (pos 7 ∷ []) nan [] [] ≡ record { answer = Refused BadPoint; out = []; marks = [] }
+half-a-point : douglasPeuckerOf (pos 7 ∷ []) nan [] [] ≡ record { answer = Refused BadPoint; out = ([], []) }
 unfolding douglasPeuckerOf badList
 half-a-point = refl
 
-no-points : douglasPeuckerOf [] nan [] [] ≡ record { answer = Refused TooFew; out = []; marks = [] }
+no-points : douglasPeuckerOf [] nan [] [] ≡ record { answer = Refused TooFew; out = ([], []) }
 unfolding douglasPeuckerOf badList
 no-points = refl
 
-no-tolerance : douglasPeuckerOf (pos 7 ∷ pos 8 ∷ []) nan [] [] ≡ record { answer = Refused BadTolerance; out = []; marks = [] }
+no-tolerance : douglasPeuckerOf (pos 7 ∷ pos 8 ∷ []) nan [] [] ≡ record { answer = Refused BadTolerance; out = ([], []) }
 unfolding douglasPeuckerOf badList ofInt le
 no-tolerance = refl
 
@@ -110,15 +89,17 @@ pixel-at-3 : reduceOf (pos 0 ∷ pos 0 ∷ pos 1 ∷ pos 0 ∷ pos 1 ∷ pos 1 �
     (pos 8 ∷ pos 8 ∷ pos 8 ∷ pos 8 ∷ pos 8 ∷ pos 8 ∷ pos 8 ∷ pos 8 ∷ pos 8 ∷ pos 8 ∷ []) (7 ∷ 7 ∷ 7 ∷ 7 ∷ 7 ∷ [])
     ≡ record {
       answer = Done 2;
-      out = pos 0 ∷ pos 0 ∷ pos 0 ∷ pos 0 ∷ pos 9 ∷ pos 9 ∷ pos 9 ∷ pos 9 ∷ pos 9 ∷ pos 9 ∷ [];
-      scratch = pos 0 ∷ pos 0 ∷ pos 8 ∷ pos 8 ∷ pos 8 ∷ pos 8 ∷ pos 8 ∷ pos 8 ∷ pos 8 ∷ pos 8 ∷ [];
-      marks = 1 ∷ 7 ∷ 7 ∷ 7 ∷ 7 ∷ [];
+      out = (
+        pos 0 ∷ pos 0 ∷ pos 0 ∷ pos 0 ∷ pos 9 ∷ pos 9 ∷ pos 9 ∷ pos 9 ∷ pos 9 ∷ pos 9 ∷ [],
+        pos 0 ∷ pos 0 ∷ pos 8 ∷ pos 8 ∷ pos 8 ∷ pos 8 ∷ pos 8 ∷ pos 8 ∷ pos 8 ∷ pos 8 ∷ [],
+        1 ∷ 7 ∷ 7 ∷ 7 ∷ 7 ∷ [],
+      );
     }
 unfolding reduceOf badList sqDist sqSegDist ofInt ofBits add sub mul div lt ne eq le
 pixel-at-3 = refl
 
 -- of one point it is given once
 one-reduced : reduceOf (pos 7 ∷ pos 8 ∷ []) (ofInt binary64 (pos 3)) (pos 9 ∷ pos 9 ∷ pos 9 ∷ pos 9 ∷ []) (pos 6 ∷ pos 6 ∷ []) (5 ∷ [])
-    ≡ record { answer = Done 1; out = pos 7 ∷ pos 8 ∷ pos 9 ∷ pos 9 ∷ []; scratch = pos 6 ∷ pos 6 ∷ []; marks = 5 ∷ [] }
+    ≡ record { answer = Done 1; out = (pos 7 ∷ pos 8 ∷ pos 9 ∷ pos 9 ∷ [], pos 6 ∷ pos 6 ∷ [], 5 ∷ []) }
 unfolding reduceOf badList ofInt le
 one-reduced = refl

@@ -1,9 +1,11 @@
--- The points of a list that marks keep, and the marks by the numbers.
-use Prim.Native.Nat.{ℕ}
+-- The points of a list that marks keep, and the room for them.
+use Prim.Native.Nat.{ℕ, _*_}
 use mathlib.Core.Bool.{Bool, true, false}
 use mathlib.Core.List.{List, [], _∷_}
-use lib.Dec.{eqb}
-use lib.Ieee.{Float, lt}
+use lib.Dec.{eqb, ltb}
+use lib.IntN.{ℤ}
+use lib.ListN.{length}
+use Rattle.point.specs.Limits.{placesFor}
 use Rattle.point.specs.declared.PointI32.{PointI32}
 
 -- the points whose mark is not 0
@@ -19,19 +21,6 @@ kept marks [] = []
 kept marks (p ∷ []) = p ∷ p ∷ []
 kept marks (p ∷ q ∷ ps) = select marks (p ∷ q ∷ ps)
 
--- 1 for what is kept, 0 for what is dropped
-abbrev pub mark : Bool → ℕ
-mark true = 1
-mark false = 0
-
--- the marks of all points but the first, by their numbers: the last is kept
-unfoldable pub marksAfter : Float → List Float → List ℕ
-marksAfter tolerance [] = []
-marksAfter tolerance (v ∷ []) = 1 ∷ []
-marksAfter tolerance (v ∷ w ∷ vs) = mark (lt tolerance v) ∷ marksAfter tolerance (w ∷ vs)
-
--- the marks by the numbers: both ends are kept, and between them each point whose number is greater than the tolerance
-unfoldable pub marksBy : Float → List Float → List ℕ
-unfolding marksAfter
-marksBy tolerance [] = []
-marksBy tolerance (v ∷ vs) = 1 ∷ marksAfter tolerance vs
+-- the buffer is too small for so many points
+abbrev pub shortFor : ℕ → List ℤ → Bool
+shortFor n out = ltb (length out) (placesFor n * 2)

@@ -1,9 +1,11 @@
-pub mod Kept
-pub mod Keep
-pub mod Zoom
-pub mod DouglasPeucker
+-- specs/ is all that you have to believe. Read `Reduce` first: both passes together. `Radial` and `DouglasPeucker` have each pass, `Numbers` and
+-- `Zoom` one number per point and the points that it keeps, and `Kept` what marks keep; `Examples` has worked ones. What stands in `inside` nobody
+-- need believe.
 pub mod Reduce
-pub mod Distance
 pub mod Radial
+pub mod DouglasPeucker
+pub mod Numbers
+pub mod Zoom
+pub mod Kept
 pub mod inside
 pub mod Examples

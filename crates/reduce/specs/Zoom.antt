@@ -1,51 +1,39 @@
--- What each call answers, and what every buffer lent to it then holds. A list is laid `over` the start of a buffer: "places past the
--- answer hold theirs".
-use mathlib.Core.Bool.{not, _||_}
-use mathlib.Core.List.{List}
-use mathlib.Core.Option.{Option, some, none}
-use lib.Dec.{ltb, eqb}
+-- What `zoom` answers, and what the buffer lent to it then holds: the points that their numbers keep at a tolerance.
+use Prim.Native.Nat.{ℕ}
+use mathlib.Core.Bool.{Bool, true, false, not, _||_}
+use mathlib.Core.List.{List, [], _∷_}
+use mathlib.Core.Option.{Option, none}
+use lib.Dec.{eqb}
 use lib.IntN.{ℤ}
-use lib.Ieee.{Float}
+use lib.Ieee.{Float, lt}
 use lib.ListN.{length}
-use Rattle.laws.specs.Lists.{over}
-use Rattle.point.specs.Limits.{tooMany, badPoints, badSqTolerance, placesFor}
-use Rattle.point.specs.Points.{flat, points, count}
+use Rattle.point.specs.Limits.{tooMany, badPoints, badSqTolerance}
+use Rattle.point.specs.Outcomes.{Points, outcome, handed}
+use Rattle.point.specs.Points.{points, count}
 use Rattle.point.specs.Refusals.{refuse_when_or_}
-use Rattle.point.specs.declared.refusal.Answer.{Answer}
-use Rattle.point.specs.declared.refusal.Answer.the-variants.{Done, Refused}
+use Rattle.point.specs.declared.refusal.Answer.the-variants.{Refused}
 use Rattle.point.specs.declared.refusal.Refusal.{Refusal}
 use Rattle.point.specs.declared.refusal.Refusal.the-variants.{TooMany, BadPoint, TooFew, BadTolerance, NoRoom}
-use Rattle.split.specs.Tree.{numbersOf}
-use Rattle.reduce.specs.Keep.{shortFor, handed}
-pub use Rattle.reduce.specs.Keep.{Points}
-use Rattle.reduce.specs.Kept.{kept, marksBy}
+use Rattle.reduce.specs.Kept.{kept, shortFor}
 
--- ---- numbers
+-- 1 for what is kept, 0 for what is dropped
+abbrev pub mark : Bool → ℕ
+mark true = 1
+mark false = 0
 
-pub record Numbered : Type 0 where
-  pub answer : Answer
-  pub out : List Float
+-- the marks of all points but the first, by their numbers: the last is kept
+unfoldable pub marksAfter : Float → List Float → List ℕ
+marksAfter tolerance [] = []
+marksAfter tolerance (v ∷ []) = 1 ∷ []
+marksAfter tolerance (v ∷ w ∷ vs) = mark (lt tolerance v) ∷ marksAfter tolerance (w ∷ vs)
 
-abbrev pub numbersRefusal : List ℤ → List Float → Option Refusal
-numbersRefusal list out =
-    refuse TooMany when tooMany (length list) or
-    refuse BadPoint when badPoints list or
-    refuse TooFew when eqb (count list) 0 or
-    refuse NoRoom when ltb (length out) (placesFor (count list)) or
-    none
+-- the marks by the numbers: both ends are kept, and between them each point whose number is greater than the tolerance
+unfoldable pub marksBy : Float → List Float → List ℕ
+unfolding marksAfter
+marksBy tolerance [] = []
+marksBy tolerance (v ∷ vs) = 1 ∷ marksAfter tolerance vs
 
-unfoldable pub numbersOutcome : Option Refusal → List ℤ → List Float → Numbered
-unfolding numbersOf over
-numbersOutcome (some r) list out = record { answer = Refused r; out = out }
-numbersOutcome none list out = record { answer = Done (count list); out = over (numbersOf list) out }
-
-unfoldable pub numberedOf : List ℤ → List Float → Numbered
-unfolding numbersOutcome
-numberedOf list out = numbersOutcome (numbersRefusal list out) list out
-
--- ---- zoom
-
--- a list of numbers that has not one for each point is BadPoint
+-- "The lowest that applies is given"; a list of numbers that has not one for each point is BadPoint
 abbrev pub zoomRefusal : List ℤ → List Float → Float → List ℤ → Option Refusal
 zoomRefusal list numbers tolerance out =
     refuse TooMany when tooMany (length list) or
@@ -55,11 +43,7 @@ zoomRefusal list numbers tolerance out =
     refuse NoRoom when shortFor (count list) out or
     none
 
-unfoldable pub zoomOutcome : Option Refusal → List ℤ → List Float → Float → List ℤ → Points
-unfolding kept marksBy flat points over
-zoomOutcome (some r) list numbers tolerance out = record { answer = Refused r; out = out }
-zoomOutcome none list numbers tolerance out = handed (kept (marksBy tolerance numbers) (points list)) out
-
 unfoldable pub zoomOf : List ℤ → List Float → Float → List ℤ → Points
-unfolding zoomOutcome
-zoomOf list numbers tolerance out = zoomOutcome (zoomRefusal list numbers tolerance out) list numbers tolerance out
+unfolding outcome handed kept marksBy points
+zoomOf list numbers tolerance out =
+    outcome Refused (zoomRefusal list numbers tolerance out) out (handed (kept (marksBy tolerance numbers) (points list)) out)

@@ -12,8 +12,9 @@ ghost use Rattle.point.specs.Limits.{badPoints, placesFor};
 ghost use Rattle.point.specs.Points.{points as pointsOf};
 ghost use Rattle.point.specs.inside.Written.{Handed};
 ghost use Rattle.reduce.specs.Radial.{radial};
-ghost use Rattle.reduce.specs.Reduce.{reduceRefusal, reduceOutcome, reduceOf};
-use crate::keep;
+ghost use Rattle.reduce.specs.Reduce.{reduceRefusal, reduction, reduceOf};
+use crate::keep::keep_all;
+use crate::keep::keep_marked;
 use crate::radial::keep_far;
 use point::Answer;
 use point::Refusal;
@@ -28,7 +29,7 @@ pub fn reduce(
     scratch: &mut [i32],
     marks: &mut [u8],
 ) -> Answer
-    ensures { λ r. ⌜ record { answer = r; out = now (out .exit); scratch = now (scratch .exit); marks = now (marks .exit) }
+    ensures { λ r. ⌜ record { answer = r; out = (now (out .exit), now (scratch .exit), now (marks .exit)) }
         ≡ reduceOf (now (points .entry)) tolerance (now (out .entry)) (now (scratch .entry)) (now (marks .entry)) ⌝ }
 {
     if point::too_many(points.len()) {
@@ -69,18 +70,19 @@ fn narrow(
     marks: &mut [u8],
 ) -> Answer
     requires { ⌜ reduceRefusal (now points) tolerance (now out) (now scratch) (now marks) ≡ none ⌝ }
-    ensures { λ r. ⌜ record { answer = r; out = now (out .exit); scratch = now (scratch .exit); marks = now (marks .exit) }
-        ≡ reduceOutcome none (now (points .entry)) tolerance (now (out .entry)) (now (scratch .entry)) (now (marks .entry)) ⌝ }
+    ensures { λ r. ⌜ record { answer = r; out = (now (out .exit), now (scratch .exit), now (marks .exit)) }
+        ≡ reduction (now (points .entry)) tolerance (now (out .entry)) (now (scratch .entry)) (now (marks .entry)) ⌝ }
 {
     let whole = is_whole(points.len() / 2, tolerance);
     let sq_tolerance = tolerance * tolerance;
     let kept = radial_unless(whole, points, sq_tolerance * 0.5, scratch);
     let list = list_of(whole, points, scratch, kept);
     if whole {
-        return keep::keep_all(list, out);
+        keep_all(list, out);
+        return Answer::Done(list.len() / 2);
     }
     split::mark(list, sq_tolerance, marks);
-    keep::keep_marked(list, marks, out)
+    Answer::Done(keep_marked(list, marks, out))
 }
 
 // Whether a list is answered whole.

@@ -1,7 +1,7 @@
 // Douglas-Peucker, over the splits of the crate `split`.
 ghost use mathlib.Core.Path.{_≡_};
 ghost use Rattle.reduce.specs.DouglasPeucker.{douglasPeuckerOf};
-use crate::keep;
+use crate::keep::keep_marked;
 use point::Answer;
 use point::Refusal;
 
@@ -13,7 +13,7 @@ pub fn simplify_douglas_peucker(
     out: &mut [i32],
     marks: &mut [u8],
 ) -> Answer
-    ensures { λ r. ⌜ record { answer = r; out = now (out .exit); marks = now (marks .exit) }
+    ensures { λ r. ⌜ record { answer = r; out = (now (out .exit), now (marks .exit)) }
         ≡ douglasPeuckerOf (now (points .entry)) tolerance (now (out .entry)) (now (marks .entry)) ⌝ }
 {
     let n = points.len() / 2;
@@ -36,5 +36,5 @@ pub fn simplify_douglas_peucker(
         return Answer::Refused(Refusal::NoRoom);
     }
     split::mark(points, tolerance, marks);
-    keep::keep_marked(points, marks, out)
+    Answer::Done(keep_marked(points, marks, out))
 }

@@ -1,6 +1,6 @@
 // The numbers of a list, over the splits of the crate `split`.
 ghost use mathlib.Core.Path.{_≡_};
-ghost use Rattle.reduce.specs.Zoom.{numberedOf};
+ghost use Rattle.reduce.specs.Numbers.{numberedOf};
 use point::Answer;
 use point::Refusal;
 

@@ -7,16 +7,15 @@ ghost use lib.IntN.{natAbs, _+ℤ_, _-ℤ_, _*ℤ_};
 ghost use lib.ListN.{length};
 ghost use Rattle.point.specs.Limits.{badPoints};
 ghost use Rattle.point.specs.Points.{flat, points as pointsOf};
-ghost use Rattle.reduce.specs.Distance.{sqDist};
-ghost use Rattle.reduce.specs.Radial.{radial, radialEnd, samePoint};
 ghost use Rattle.point.specs.inside.Written.{onto, Handed};
-ghost use Rattle.reduce.specs.Reduce.{radialOf};
-use crate::keep;
+ghost use Rattle.reduce.specs.Radial.{sqDist, radial, radialEnd, radialOf};
+use crate::keep::keep_all;
 use point::Answer;
 use point::PointI32;
 use point::Refusal;
 use point::point_at;
 use point::put;
+use point::same_point;
 
 // Puts the points that the radial pass keeps at the start of `out`.
 pub fn simplify_radial_dist(points: &[i32], tolerance: f64, out: &mut [i32]) -> Answer
@@ -45,7 +44,7 @@ pub(crate) fn keep_far(points: &[i32], tolerance: f64, out: &mut [i32]) -> usize
 {
     let n = points.len() / 2;
     if n <= 2 {
-        keep::keep_all(points, out);
+        keep_all(points, out);
         return n;
     }
     let mut prev = point_at(points, 0);
@@ -75,12 +74,6 @@ fn with_last(last: PointI32, prev: PointI32, kept: usize, out: &mut [i32]) -> us
     }
     put(last, kept, out);
     kept + 1
-}
-
-fn same_point(p: PointI32, q: PointI32) -> bool
-    ensures { λ r. ⌜ r ≡ samePoint p q ⌝ }
-{
-    p.x == q.x && p.y == q.y
 }
 
 // The square of the distance between two points.

@@ -1,7 +1,7 @@
 // The points of a zoom, by their numbers.
 ghost use mathlib.Core.Path.{_≡_};
 ghost use Rattle.reduce.specs.Zoom.{zoomOf};
-use crate::keep;
+use crate::keep::keep_above;
 use point::Answer;
 use point::Refusal;
 
@@ -27,5 +27,8 @@ pub fn zoom(points: &[i32], numbers: &[f64], tolerance: f64, out: &mut [i32]) ->
     if point::bad_sq_tolerance(tolerance) {
         return Answer::Refused(Refusal::BadTolerance);
     }
-    keep::keep_above(points, numbers, tolerance, out)
+    if out.len() / 2 < point::places_for(n) {
+        return Answer::Refused(Refusal::NoRoom);
+    }
+    Answer::Done(keep_above(points, numbers, tolerance, out))
 }

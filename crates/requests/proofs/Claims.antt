@@ -2,36 +2,36 @@
 use Prim.Native.Nat.{ℕ, _+_, _*_, _≤_}
 use mathlib.Core.Bool.{Bool, true, false, _&&_}
 use mathlib.Core.List.{List}
-use mathlib.Core.Path.{_≡_, refl, sym, ap, subst, _∙_}
+use mathlib.Core.Path.{_≡_, refl, sym, ap, subst}
 use native.Mathlib.Omega.{arith}
 use lib.Dec.{ltb, eqb}
 use lib.IntN.{ℤ}
 use lib.ListN.{length, getD, take, drop}
 use denote.Ref.{now}
 use borrow.Author.Tests.{eqb-true, ltb-false, le-leb}
+use Rattle.laws.proofs.Determined.{Determined, same}
 use Rattle.laws.proofs.Joined.{both-true}
 use Rattle.laws.proofs.Lists.{take-over-all}
 use Rattle.laws.specs.If.{if_then_else_}
 use Rattle.chart.specs.Pixels.{rowBytes}
 use Rattle.requests.specs.Frame.{Request, walk, simplify, reduce, numbers, no-frame, wordAt, valuesOf, clockwise, directed, chartIn, startIn, walkIn, simplifyIn, reduceIn, numbersIn, kindIn, requestIn}
-use Rattle.requests.specs.Handed.{Outcome, handed}
+use Rattle.laws.specs.Outcome.{Outcome}
+use Rattle.requests.specs.Asked.{askedOf}
 use Rattle.requests.specs.declared.Asked.{Asked}
 use Rattle.requests.specs.declared.Asked.the-variants as Asked
 use Rattle.requests.proofs.Points.{length-rest}
-use Rattle.requests.proofs.kinds.request.Reads.{Post}
+use Rattle.requests.proofs.frame.request.Reads.{Post}
 
--- The contract leaves no choice: of arguments of the same contents it allows one answer, and one last content of the buffer.
--- `Post` is the contract itself, as Rattle reads it off the source, at arguments `a`, a result `r` and parameters at exit `s`.
-pub request-determined : (κs : _) (a a′ : _) (r r′ : _) (s s′ : _) → Post κs a r s → Post κs a′ r′ s′ →
-    now (a .0) ≡ now (a′ .0) → now (a .1 .0) ≡ now (a′ .1 .0) →
-    _≡_ {A = Outcome} (record { answer = r; to = now (s .1 .0) }) (record { answer = r′; to = now (s′ .1 .0) })
-request-determined κs a a′ r r′ s s′ p q frame to = p ∙ (λ i. handed (requestIn (frame i)) (to i)) ∙ sym q
+-- The contract leaves no choice: of equal arguments it allows one answer, and one last content of the buffer. `Post` is the contract itself, as
+-- Rattle reads it off the source.
+pub request-determined : Determined (List ℕ × List ℤ) (Outcome Asked (List ℤ)) Post (λ _ a. (now (a .0), now (a .1 .0))) (λ _ r s. record { answer = r; out = now (s .1 .0) })
+request-determined = same (λ x. askedOf (requestIn (x .0)) (x .1)) (λ _ a r s p. p)
 
 -- ---- What is handed on says what was asked for, where the buffer has room for every frame's points.
 
 -- the request that an answer says, with what the buffer holds and the bytes of the frame
 abbrev pub said : Asked → List ℤ → List ℕ → Request
-said (Asked.Walk clockwise chart start) to bytes = walk clockwise chart start (drop 10 bytes)
+said (Asked.Walk clockwise chart start rows) to bytes = walk clockwise chart start (drop rows bytes)
 said (Asked.Simplify clockwise n) to bytes = simplify clockwise (take n to)
 said (Asked.Reduce tolerance n) to bytes = reduce tolerance (take n to)
 said (Asked.Numbers n) to bytes = numbers (take n to)
@@ -39,7 +39,7 @@ said Asked.NoFrame to bytes = no-frame
 
 -- how many values it has in the buffer
 abbrev pub valuesIn : Asked → ℕ
-valuesIn (Asked.Walk clockwise chart start) = 0
+valuesIn (Asked.Walk clockwise chart start rows) = 0
 valuesIn (Asked.Simplify clockwise n) = n
 valuesIn (Asked.Reduce tolerance n) = n
 valuesIn (Asked.Numbers n) = n
@@ -47,24 +47,24 @@ valuesIn Asked.NoFrame = 0
 
 -- how many bytes of the frame stand before the rows of its chart
 abbrev pub bytesBefore : Asked → ℕ
-bytesBefore (Asked.Walk clockwise chart start) = 10
+bytesBefore (Asked.Walk clockwise chart start rows) = rows
 bytesBefore (Asked.Simplify clockwise n) = 0
 bytesBefore (Asked.Reduce tolerance n) = 0
 bytesBefore (Asked.Numbers n) = 0
 bytesBefore Asked.NoFrame = 0
 
 -- what an answer says of a request q, of the buffer, and of the bytes
-pub record Told (bytes : List ℕ) (to : List ℤ) (q : Request) (o : Outcome) : Type 0 where
-  pub asked : q ≡ said (o .answer) (o .to) bytes
+pub record Told (bytes : List ℕ) (to : List ℤ) (q : Request) (o : Outcome Asked (List ℤ)) : Type 0 where
+  pub asked : q ≡ said (o .answer) (o .out) bytes
   pub held : valuesIn (o .answer) ≤ length to
   pub behind : bytesBefore (o .answer) ≤ length bytes
 
 module _ (f : List ℕ) (to : List ℤ) where
   abbrev Tells : Request → Type 0
-  Tells q = Told f to q (handed q to)
+  Tells q = Told f to q (askedOf q to)
 
   told-none : Tells no-frame
-  unfolding handed
+  unfolding askedOf
   told-none = record { asked = refl; held = omega arith; behind = omega arith }
 
   -- by a test, of which one side is no frame
@@ -73,7 +73,7 @@ module _ (f : List ℕ) (to : List ℤ) where
   told-if false q h = told-none
 
   told-walk : Tells (walkIn f)
-  unfolding walkIn handed
+  unfolding walkIn askedOf
   told-walk =
       told-if (directed f && eqb (length f) (10 + rowBytes (wordAt f 2) * wordAt f 4)) (walk (clockwise f) (chartIn f) (startIn f) (drop 10 f))
       (λ e. record {
@@ -90,7 +90,7 @@ module _ (f : List ℕ) (to : List ℤ) where
   -- points that fit
   module _ (points : List ℤ) (h : length points ≤ length to) where
     told-simplify : (cw : Bool) → Tells (simplify cw points)
-    unfolding handed
+    unfolding askedOf
     told-simplify cw = rw (le-leb (length points) (length to) h) (record {
       asked = ap (simplify cw) (sym (take-over-all points to));
       held = h;
@@ -98,7 +98,7 @@ module _ (f : List ℕ) (to : List ℤ) where
     })
 
     told-reduce : (t : ℕ) → Tells (reduce t points)
-    unfolding handed
+    unfolding askedOf
     told-reduce t = rw (le-leb (length points) (length to) h) (record {
       asked = ap (reduce t) (sym (take-over-all points to));
       held = h;
@@ -106,7 +106,7 @@ module _ (f : List ℕ) (to : List ℤ) where
     })
 
     told-numbers : Tells (numbers points)
-    unfolding handed
+    unfolding askedOf
     told-numbers = rw (le-leb (length points) (length to) h) (record {
       asked = ap numbers (sym (take-over-all points to));
       held = h;
@@ -139,5 +139,5 @@ module _ (f : List ℕ) (to : List ℤ) where
       by true e = told-none
       by false e = told-kind room (ltb-false 16384 (length f) e) (getD f 0 0)
 
-  pub told : 8190 ≤ length to → (o : Outcome) → o ≡ handed (requestIn f) to → Told f to (requestIn f) o
+  pub told : 8190 ≤ length to → (o : Outcome Asked (List ℤ)) → o ≡ askedOf (requestIn f) to → Told f to (requestIn f) o
   told room o e = subst (Told f to (requestIn f)) (sym e) (told-all room)

@@ -52,10 +52,14 @@ chartIn bytes = record { width = wordAt bytes 2; height = wordAt bytes 4 }
 abbrev pub startIn : List ℕ → PointI32
 startIn bytes = record { x = signed (wordAt bytes 6); y = signed (wordAt bytes 8) }
 
+-- the place of the rows
+abbrev pub rowsFrom : ℕ
+rowsFrom = 10
+
 unfoldable pub walkIn : List ℕ → Request
 walkIn bytes =
-    if directed bytes && eqb (length bytes) (10 + rowBytes (wordAt bytes 2) * wordAt bytes 4)
-    then walk (clockwise bytes) (chartIn bytes) (startIn bytes) (drop 10 bytes)
+    if directed bytes && eqb (length bytes) (rowsFrom + rowBytes (wordAt bytes 2) * wordAt bytes 4)
+    then walk (clockwise bytes) (chartIn bytes) (startIn bytes) (drop rowsFrom bytes)
     else no-frame
 
 -- "02 simplify (direction byte, count u16, points)"

@@ -1,4 +1,5 @@
--- What the crate promises: `Frame` says what a frame asks for, `Handed` how that is handed on.
+-- specs/ is all that you have to believe. Read Frame first: what the bytes of a frame ask for. Asked says how that is handed on, and Examples has
+-- some of both.
 pub mod Frame
-pub mod Handed
+pub mod Asked
 pub mod Examples

@@ -5,14 +5,14 @@ ghost use Prim.Native.Nat.{_+_, _*_, _≤_};
 ghost use lib.Dec.{leb, eqb};
 ghost use lib.ListN.{length};
 ghost use Rattle.requests.specs.Frame.{wordAt, simplifyIn, reduceIn, numbersIn};
-ghost use Rattle.requests.specs.Handed.{handed};
+ghost use Rattle.requests.specs.Asked.{askedOf};
 use crate::Asked;
-use crate::words::decode;
-use crate::words::word;
+use crate::two_bytes::decode;
+use crate::two_bytes::word;
 
 // Kind 02: direction, points.
 pub(crate) fn simplify_in(frame: &[u8], to: &mut [i32]) -> Asked
-    ensures { λ r. ⌜ record { answer = r; to = now (to .exit) } ≡ handed (simplifyIn (now (frame .entry))) (now (to .entry)) ⌝ }
+    ensures { λ r. ⌜ record { answer = r; out = now (to .exit) } ≡ askedOf (simplifyIn (now (frame .entry))) (now (to .entry)) ⌝ }
 {
     if !is_list(frame, 2, to.len()) {
         return Asked::NoFrame;
@@ -25,7 +25,7 @@ pub(crate) fn simplify_in(frame: &[u8], to: &mut [i32]) -> Asked
 
 // Kind 03: tolerance in sixteenths, points.
 pub(crate) fn reduce_in(frame: &[u8], to: &mut [i32]) -> Asked
-    ensures { λ r. ⌜ record { answer = r; to = now (to .exit) } ≡ handed (reduceIn (now (frame .entry))) (now (to .entry)) ⌝ }
+    ensures { λ r. ⌜ record { answer = r; out = now (to .exit) } ≡ askedOf (reduceIn (now (frame .entry))) (now (to .entry)) ⌝ }
 {
     if !is_list(frame, 3, to.len()) {
         return Asked::NoFrame;
@@ -35,7 +35,7 @@ pub(crate) fn reduce_in(frame: &[u8], to: &mut [i32]) -> Asked
 
 // Kind 04: points.
 pub(crate) fn numbers_in(frame: &[u8], to: &mut [i32]) -> Asked
-    ensures { λ r. ⌜ record { answer = r; to = now (to .exit) } ≡ handed (numbersIn (now (frame .entry))) (now (to .entry)) ⌝ }
+    ensures { λ r. ⌜ record { answer = r; out = now (to .exit) } ≡ askedOf (numbersIn (now (frame .entry))) (now (to .entry)) ⌝ }
 {
     if !is_list(frame, 1, to.len()) {
         return Asked::NoFrame;

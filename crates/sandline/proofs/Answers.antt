@@ -10,7 +10,7 @@ use lib.ListN.{length, length-append}
 use borrow.Author.Tests.{ltb-false}
 use Rattle.laws.proofs.If.{if-cases}
 use Rattle.lines.specs.Turns.{line}
-use Rattle.lines.specs.Runs.{Machine, linesOf, wholeLines, handed, answersTo, stepIn, after, started}
+use Rattle.lines.specs.Runs.{Machine, linesOf, wholeLines, orEmpty, answersTo, stepIn, after, started}
 use Rattle.lines.specs.declared.turns.State.{State}
 use Rattle.lines.specs.declared.turns.Turn.{Turn}
 use Rattle.lines.specs.declared.turns.Turn.the-variants.{Read, End}
@@ -25,15 +25,15 @@ answers ls = flatMap (λ l. line (answerTo l)) ls
 
 -- a line that the input does not hold is no frame, and an empty one is none either
 module _ (size : ℕ) (holds : 32768 < size) where
-  as-handed : (l : List ℕ) → answerTo (handed size l) ≡ answerTo l
-  as-handed l =
+  as-heard : (l : List ℕ) → answerTo (orEmpty size l) ≡ answerTo l
+  as-heard l =
       if-cases (λ (k : List ℕ). answerTo k ≡ answerTo l) (ltb (length l) size) _ _ (λ t. refl)
       (λ t. empty-is-no-frame ∙ sym (too-long-is-no-frame l (omega (arith, ltb-false (length l) size t))))
 
   as-answered : (ls : List (List ℕ)) → answersTo answerTo size ls ≡ answers ls
   unfolding answersTo flatMap
   as-answered [] = refl
-  as-answered (l ∷ ls) = ap₂ (λ (a : List ℕ) (b : List ℕ). line a ++ b) (as-handed l) (as-answered ls)
+  as-answered (l ∷ ls) = ap₂ (λ (a : List ℕ) (b : List ℕ). line a ++ b) (as-heard l) (as-answered ls)
 
 module _ (sizes : ℕ → ℕ) (input output text : List ℕ) (in-size : length input ≡ 33792) (out-size : length output ≡ 36864) where
   some : 0 < length input
@@ -54,7 +54,7 @@ module _ (sizes : ℕ → ℕ) (input output text : List ℕ) (in-size : length 
     machine = after answerTo 4095 sizes n (started input output text)
 
     abbrev turn : Turn
-    turn = stepIn answerTo 4095 sizes machine .turn
+    turn = stepIn answerTo 4095 sizes machine .answer
 
     -- when it is about to read on, it has written the answers to all lines that it has got, and nothing else
     pub answers-come-before-more-is-read : (at : ℕ) (s : State) (got : List ℕ) → turn ≡ Read at s → text ≡ got ++ machine .text →

@@ -16,7 +16,7 @@ const MOST: usize = 4095;
 // A turn that is a line is answered here, and leaves nothing to do.
 pub fn step(s: State, input: &mut [u8], output: &mut [u8]) -> Turn
     requires { ⌜ 36864 ≤ length (now output) ⌝ }
-    ensures { λ r. ⌜ record { turn = r; input = now (input .exit); output = now (output .exit) }
+    ensures { λ r. ⌜ record { answer = r; out = (now (input .exit), now (output .exit)) }
         ≡ stepOf answerTo s 4095 (now (input .entry)) (now (output .entry)) ⌝ }
 {
     let turn = lines::next(s, MOST, input);
@@ -34,7 +34,7 @@ pub fn step(s: State, input: &mut [u8], output: &mut [u8]) -> Turn
 // Puts the answer to a line and a newline at a place of the output, and answers the place behind them.
 fn put_line(text: &[u8], output: &mut [u8], at: usize) -> usize
     requires { ⌜ at + 32769 ≤ length (now output) ⌝ }
-    ensures { λ r. ⌜ record { next = r; out = now (output .exit) }
+    ensures { λ r. ⌜ record { answer = r; out = now (output .exit) }
         ≡ put (line (answerTo (now (text .entry)))) (now (output .entry)) at ⌝ }
 {
     let end = frames::answer(text, output, at);

@@ -14,33 +14,33 @@ use Rattle.util.specs.declared.ratios.Intersection.{Intersection}
 use Rattle.util.specs.declared.ratios.Intersection.the-variants.{Parallel, Coincide, Cross}
 use Rattle.smooth.specs.declared.scheme.Settings.{Settings}
 
-abbrev pub chart : ℕ → ℕ → Chart
-chart width height = record { width = width; height = height }
+abbrev pub chartFrom : ℕ → ℕ → Chart
+chartFrom width height = record { width = width; height = height }
 
-abbrev pub point : ℤ → ℤ → PointI32
-point x y = record { x = x; y = y }
+abbrev pub pointFrom : ℤ → ℤ → PointI32
+pointFrom x y = record { x = x; y = y }
 
-abbrev pub place : Float → Float → PointF64
-place x y = record { x = x; y = y }
+abbrev pub pointF64From : Float → Float → PointF64
+pointF64From x y = record { x = x; y = y }
 
-abbrev pub pair : ℤ → ℤ → Pair
-pair c s = record { c = c; s = s }
+abbrev pub pairFrom : ℤ → ℤ → Pair
+pairFrom c s = record { c = c; s = s }
 
-abbrev pub settings : Float → Float → Settings
-settings ratio length = record { ratio = ratio; length = length }
+abbrev pub settingsFrom : Float → Float → Settings
+settingsFrom ratio length = record { ratio = ratio; length = length }
 
 -- a value of a list; what is not there is not a number
 abbrev pub valueAt : List Float → ℕ → Float
 valueAt values k = getD values k nan
 
 -- the point at a position of a list x, y, x, y
-abbrev pub placeAt : List Float → ℕ → PointF64
-placeAt values k = place (valueAt values (k * 2)) (valueAt values (k * 2 + 1))
+abbrev pub pointF64At : List Float → ℕ → PointF64
+pointF64At values k = pointF64From (valueAt values (k * 2)) (valueAt values (k * 2 + 1))
 
 -- The crossing that values stand for, as `sandline_find_intersection` hands them out: four are a point and both ratios, two the midpoint of
 -- lines that coincide. Any other number of them stands for lines that do not meet.
-unfoldable pub crossed : List Float → Intersection
-crossed values =
-    if eqb (length values) 4 then Cross (placeAt values 0) (valueAt values 2) (valueAt values 3) else
-    if eqb (length values) 2 then Coincide (placeAt values 0) else
+unfoldable pub crossingFrom : List Float → Intersection
+crossingFrom values =
+    if eqb (length values) 4 then Cross (pointF64At values 0) (valueAt values 2) (valueAt values 3) else
+    if eqb (length values) 2 then Coincide (pointF64At values 0) else
     Parallel

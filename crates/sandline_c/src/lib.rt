@@ -4,12 +4,17 @@
 // number, 0 for done. Counts and values come back through small lent arrays: after a refusal the count is 0,
 // and all else that was lent holds what it held.
 //
-// What stack each call takes stands in the header, and tools/stack prints it.
-mod crossings;
-mod geometry;
+// The calls of a crate stand in the file of its name, as they stand under its heading in the header. What stack
+// each call takes is said there too, and tools/stack prints it.
+mod chart_c;
+mod corners_c;
+mod frames_c;
 mod handing;
-mod overlay;
-mod pictures;
-mod smoothing;
-mod spiralling;
-mod thinning;
+mod pbm_c;
+mod reduce_c;
+mod simplify_c;
+mod smooth_c;
+mod spiral_c;
+mod sqrt_c;
+mod util_c;
+mod walker_c;

@@ -18,7 +18,7 @@ use Rattle.point.specs.declared.PointI32.{PointI32}
 use Rattle.point.proofs.Flat.{length-flat, length-points, count-flat}
 use Rattle.point.proofs.Room.{places-shorter}
 use Rattle.point.specs.declared.refusal.Answer.the-variants.{Refused}
-use Rattle.point.specs.Outcomes.{Points, refusal, verdict, outcome, handed, passed}
+use Rattle.point.specs.Outcomes.{Points, refusal, verdict, outcome, handed}
 use Rattle.point.specs.declared.refusal.Verdict.{Verdict}
 use Rattle.point.specs.declared.refusal.Verdict.the-variants.{Fine}
 use Rattle.point.proofs.Verdicts.{few, good, places, not-refused}

@@ -1,4 +1,4 @@
-// Fewer points for a walked outline: `remove_staircase` takes out one-pixel staircases, as a walk along pixels
+// For a planner with a walked outline, fewer points: `remove_staircase` takes out one-pixel staircases, as a walk along pixels
 // leaves them, `limit_penalties` the points that it can do without at little cost, and `simplify` one after
 // the other.
 //
@@ -10,6 +10,7 @@ mod penalties;
 mod staircase;
 mod steps;
 mod triangle;
+mod vector;
 
 pub use paths::simplify;
 pub use penalties::limit_penalties;

@@ -1,8 +1,5 @@
 // Fewer points for a walked outline: first one-pixel staircases go, and then the points that it can
-// do without at little cost.
-//
-// Lists of points are x, y, x, y, in lent slices; counts are points. Refusals are judged first, and
-// then nothing can fail. The list that stands between the two passes, 8,192 values, lies on the stack.
+// do without at little cost. The list that stands between the two passes, 8,192 values, lies on the stack.
 ghost use mathlib.Core.Path.{_≡_};
 ghost use Rattle.simplify.specs.Simplify.{simplifyOf};
 use crate::penalties::limit_penalties;

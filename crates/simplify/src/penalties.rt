@@ -1,10 +1,6 @@
 // The points that an outline can do without at little cost, left out. Leaving a point out costs the square
 // of the area of the triangle that it makes with the points kept before and behind it, over the side between
 // these two.
-//
-// Lists of points are x, y, x, y, in lent slices; counts are points. Refusals are judged first, and
-// then nothing can fail.
-
 ghost use Prim.Native.Nat.{_*_, _<_, _≤_};
 ghost use mathlib.Core.Bool.{false};
 ghost use mathlib.Core.Path.{_≡_};

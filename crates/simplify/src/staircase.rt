@@ -1,8 +1,4 @@
 // One-pixel staircases, as a walk along pixels leaves them, taken out of an outline.
-//
-// Lists of points are x, y, x, y, in lent slices; counts are points. Refusals are judged first, and
-// then nothing can fail.
-
 ghost use Prim.Native.Nat.{_≤_};
 ghost use mathlib.Core.Bool.{false};
 ghost use mathlib.Core.Path.{_≡_};

@@ -1,10 +1,11 @@
 // Whether a point stays between its neighbours.
 ghost use Prim.Native.Nat.{_≤_};
 ghost use mathlib.Core.Path.{_≡_};
-ghost use lib.IntN.{natAbs, _-ℤ_};
+ghost use lib.IntN.{natAbs};
 ghost use Rattle.util.specs.Area.{signedArea};
-ghost use Rattle.util.specs.Near.{Near};
+ghost use Rattle.point.specs.inside.Near.{Near};
 ghost use Rattle.simplify.specs.Staircase.{segmentLength, outwards, stays};
+use crate::vector::difference;
 use point::PointI32;
 
 // Whether a point stays: beside a step of one pixel where the outline turns outwards, and else in any case.
@@ -53,12 +54,4 @@ fn size(d: i32) -> u32
         return -d as u32;
     }
     d as u32
-}
-
-// The difference of two coordinates.
-fn difference(a: i32, b: i32) -> i32
-    requires { ⌜ (natAbs a ≤ 16383) × (natAbs b ≤ 16383) ⌝ }
-    ensures { λ r. ⌜ (r ≡ a -ℤ b) × (natAbs r ≤ 32766) ⌝ }
-{
-    a - b
 }

@@ -1,9 +1,10 @@
 // What it costs to leave a point out: Heron's formula, operation by operation as the Rust has it.
 ghost use Prim.Native.Nat.{_≤_};
 ghost use mathlib.Core.Path.{_≡_};
-ghost use lib.IntN.{natAbs, _-ℤ_};
-ghost use Rattle.util.specs.Near.{Near};
+ghost use lib.IntN.{natAbs};
+ghost use Rattle.point.specs.inside.Near.{Near};
 ghost use Rattle.simplify.specs.Penalties.{sq, side, heron, penalty};
+use crate::vector::difference;
 use point::PointI32;
 
 // What it costs to leave `b` out between `a` and `c`, whose distance is handed in.
@@ -37,12 +38,4 @@ fn sq(d: i32) -> f64
     ensures { λ r. ⌜ r ≡ sq d ⌝ }
 {
     (d * d) as f64
-}
-
-// The difference of two coordinates.
-fn difference(a: i32, b: i32) -> i32
-    requires { ⌜ (natAbs a ≤ 16383) × (natAbs b ≤ 16383) ⌝ }
-    ensures { λ r. ⌜ (r ≡ a -ℤ b) × (natAbs r ≤ 32766) ⌝ }
-{
-    a - b
 }

@@ -2,7 +2,6 @@
 use Prim.Native.Nat.{ℕ, zero, suc, _+_, _*_, _<_, _≤_}
 use mathlib.Core.Bool.{Bool, true, false, _&&_}
 use mathlib.Core.List.{List, [], _∷_, _++_, append-assoc, append-nil}
-use mathlib.Core.Option.{Option, some, none}
 use mathlib.Core.Path.{_≡_, refl, sym, ap, _∙_}
 use native.Mathlib.Omega.{arith}
 use lib.Ieee.{Float}
@@ -11,10 +10,11 @@ use borrow.Author.Tests.{eq-eqb}
 use Rattle.point.specs.declared.PointF64.{PointF64}
 use Rattle.smooth.specs.declared.scheme.Settings.{Settings}
 use Rattle.smooth.specs.Places.{placeAt}
-use Rattle.smooth.specs.Segments.{settled, after, enteringBehind}
-use Rattle.smooth.specs.Round.{Made, with-entered, madeFrom}
-use Rattle.smooth.specs.Judged.{roomFor}
-use Rattle.smooth.specs.inside.Parts.{listOf, flagsOf, turnPoints, turnFlags, turnSettled}
+use Rattle.smooth.specs.declared.scheme.Entering.{Entering}
+use Rattle.smooth.specs.declared.scheme.Entering.the-variants.{Nothing, Point}
+use Rattle.smooth.specs.Segments.{enteringBehind}
+use Rattle.smooth.specs.Round.{Made, withEntered, madeFrom}
+use Rattle.smooth.specs.inside.Parts.{roomFor, listOf, flagsOf, settledOf, turnPoints, turnFlags, turnSettled}
 
 -- ---- the room
 
@@ -24,23 +24,24 @@ first-room false m i k places h l r = omega arith
 
 module _ (list : List Float) (corners : List ℕ) (settings : Settings) (m i k places : ℕ) (h : i < m) (l : k ≤ i * 2) where
   -- nothing enters behind the last point of an open list
-  none-behind : suc i ≡ m → enteringBehind list corners settings false m i ≡ none
+  none-behind : suc i ≡ m → enteringBehind list corners settings false m i ≡ Nothing
   unfolding enteringBehind
   none-behind e = rw (eq-eqb (suc i) m e)
 
-  pub second-room : (closed : Bool) (p : PointF64) → enteringBehind list corners settings closed m i ≡ some p → roomFor closed m ≤ places → k + 1 < places
-  second-room true p e r = omega arith
-  second-room false p e r =
-      let n : suc i ≡ m → ⊥ = λ z. let o : none ≡ some p = sym (none-behind z) ∙ e in let c : _≡_ {A = ℕ} 0 1 = cc in omega arith in
+  pub second-room : (closed : Bool) (p : PointF64) (s : Bool) → enteringBehind list corners settings closed m i ≡ Point p s → roomFor closed m ≤ places →
+      k + 1 < places
+  second-room true p s e r = omega arith
+  second-room false p s e r =
+      let n : suc i ≡ m → ⊥ = λ z. let o : Nothing ≡ Point p s = sym (none-behind z) ∙ e in let c : _≡_ {A = ℕ} 0 1 = cc in omega arith in
       omega arith
 
   pub turn-fits : (closed : Bool) → roomFor closed m ≤ places → k + length (turnPoints list corners settings closed m i) ≤ places
   unfolding turnPoints
   turn-fits closed r = go (enteringBehind list corners settings closed m i) refl
     where
-      go : (o : Option PointF64) → enteringBehind list corners settings closed m i ≡ o → k + length (placeAt list i ∷ listOf o) ≤ places
-      go none e = omega (arith, first-room closed m i k places h l r)
-      go (some p) e = omega (arith, second-room closed p e r)
+      go : (o : Entering) → enteringBehind list corners settings closed m i ≡ o → k + length (placeAt list i ∷ listOf o) ≤ places
+      go Nothing e = omega (arith, first-room closed m i k places h l r)
+      go (Point p s) e = omega (arith, second-room closed p s e r)
 
 -- ---- a list, or a test, that is made from the front is also made from the back
 
@@ -72,35 +73,34 @@ module _ (list : List Float) (corners : List ℕ) (settings : Settings) (closed 
   abbrev made : ℕ → ℕ → Made
   made i n = madeFrom list corners settings closed m i n
 
-  entered-points : (o : Option PointF64) (s : Bool) (rest : Made) → with-entered o s rest .points ≡ listOf o ++ rest .points
-  entered-points none s rest = refl
-  entered-points (some p) s rest = refl
+  entered-points : (o : Entering) (rest : Made) → withEntered o rest .points ≡ listOf o ++ rest .points
+  entered-points Nothing rest = refl
+  entered-points (Point p s) rest = refl
 
-  entered-flags : (o : Option PointF64) (s : Bool) (rest : Made) → with-entered o s rest .flags ≡ flagsOf o ++ rest .flags
-  entered-flags none s rest = refl
-  entered-flags (some p) s rest = refl
+  entered-flags : (o : Entering) (rest : Made) → withEntered o rest .flags ≡ flagsOf o ++ rest .flags
+  entered-flags Nothing rest = refl
+  entered-flags (Point p s) rest = refl
 
-  entered-finished : (i j : ℕ) (o : Option PointF64) (rest : Made) → with-entered o (settled list settings i j o) rest .finished ≡ (settled list settings i j o && rest .finished)
-  unfolding settled
-  entered-finished i j none rest = refl
-  entered-finished i j (some p) rest = refl
+  entered-finished : (o : Entering) (rest : Made) → withEntered o rest .finished ≡ (settledOf o && rest .finished)
+  entered-finished Nothing rest = refl
+  entered-finished (Point p s) rest = refl
 
-  abbrev behind : ℕ → Option PointF64
+  abbrev behind : ℕ → Entering
   behind i = enteringBehind list corners settings closed m i
 
   front-points : (i n : ℕ) → made i (suc n) .points ≡ turnPoints list corners settings closed m i ++ made (suc i) n .points
   unfolding madeFrom turnPoints
   front-points i n =
-      ap (λ (l : List PointF64). placeAt list i ∷ l) (entered-points (behind i) (settled list settings i (after closed m i) (behind i)) (made (suc i) n))
+      ap (λ (l : List PointF64). placeAt list i ∷ l) (entered-points (behind i) (made (suc i) n))
 
   front-flags : (i n : ℕ) → made i (suc n) .flags ≡ turnFlags list corners settings closed m i ++ made (suc i) n .flags
   unfolding madeFrom turnFlags
   front-flags i n =
-      ap (λ (l : List ℕ). getD corners i 0 ∷ l) (entered-flags (behind i) (settled list settings i (after closed m i) (behind i)) (made (suc i) n))
+      ap (λ (l : List ℕ). getD corners i 0 ∷ l) (entered-flags (behind i) (made (suc i) n))
 
   front-finished : (i n : ℕ) → made i (suc n) .finished ≡ (turnSettled list corners settings closed m i && made (suc i) n .finished)
   unfolding madeFrom turnSettled
-  front-finished i n = entered-finished i (after closed m i) (behind i) (made (suc i) n)
+  front-finished i n = entered-finished (behind i) (made (suc i) n)
 
   no-points : (i : ℕ) → made i zero .points ≡ []
   unfolding madeFrom
@@ -135,17 +135,17 @@ module _ (list : List Float) (corners : List ℕ) (settings : Settings) (closed 
   unfolding turnPoints
   two-at-most i = go (behind i)
     where
-      go : (o : Option PointF64) → length (placeAt list i ∷ listOf o) ≤ 2
-      go none = omega arith
-      go (some p) = omega arith
+      go : (o : Entering) → length (placeAt list i ∷ listOf o) ≤ 2
+      go Nothing = omega arith
+      go (Point p s) = omega arith
 
   pub flag-each : (i : ℕ) → length (turnFlags list corners settings closed m i) ≡ length (turnPoints list corners settings closed m i)
   unfolding turnPoints turnFlags
   flag-each i = go (behind i)
     where
-      go : (o : Option PointF64) → length (getD corners i 0 ∷ flagsOf o) ≡ length (placeAt list i ∷ listOf o)
-      go none = refl
-      go (some p) = refl
+      go : (o : Entering) → length (getD corners i 0 ∷ flagsOf o) ≡ length (placeAt list i ∷ listOf o)
+      go Nothing = refl
+      go (Point p s) = refl
 
   pub twice-at-most : (i n : ℕ) → length (made i n .points) ≤ n * 2
   twice-at-most i zero = rw (no-points i) (omega arith)

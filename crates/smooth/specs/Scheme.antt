@@ -1,5 +1,5 @@
--- What enters one segment, operation by operation as the Rust has it (smooth.rs, subdivide_keep_corners). Document 01: "skip at length ≤ segment
--- length, skip at a neighbour ratio ≥ 2.0, 3-point scheme at corners, f64::EPSILON test".
+-- Whether a point enters one segment, and where, operation by operation as the Rust has it (smooth.rs, subdivide_keep_corners). Document 01: "skip
+-- at length ≤ segment length, skip at a neighbour ratio ≥ 2.0, 3-point scheme at corners, f64::EPSILON test".
 use mathlib.Core.Bool.{Bool, not, _||_}
 use lib.IntN.{pos}
 use lib.Ieee.{Float, binary64, ofInt, ofBits, add, sub, mul, div, lt, le}
@@ -45,18 +45,19 @@ abbrev pub twice : Float → Float → Bool
 twice length curr = le (ofInt binary64 (pos 2)) (div binary64 length curr)
 
 -- it is left as it is: it is at most the segment length, or the segment before it (from prev) or behind it (to next) is at least twice as long
-unfoldable pub skippedBy : PointF64 → PointF64 → PointF64 → PointF64 → Float → Bool
+unfoldable pub skipped : PointF64 → PointF64 → PointF64 → PointF64 → Float → Bool
 unfolding distance
-skippedBy p q prev next length =
+skipped p q prev next length =
     le (distance p q) length || twice (distance prev p) (distance p q) || twice (distance next q) (distance p q)
 
--- neither of its new parts is longer than the segment length
-unfoldable pub settledBy : PointF64 → PointF64 → PointF64 → Float → Bool
+-- a point that entered leaves it settled, so that it asks for no further round: neither of its new parts is longer than the segment length
+unfoldable pub settled : PointF64 → PointF64 → PointF64 → Float → Bool
 unfolding distance
-settledBy p q new length = not (lt length (distance p new) || lt length (distance q new))
+settled p q new length = not (lt length (distance p new) || lt length (distance q new))
 
--- the point that enters it, where the points around it are before and behind; and whether both its new parts are short
-unfoldable pub placedBy : Settings → PointF64 → PointF64 → PointF64 → PointF64 → Entering
-unfolding newPoint settledBy
-placedBy settings p q before behind =
-    Point (newPoint p q before behind (settings .ratio)) (settledBy p q (newPoint p q before behind (settings .ratio)) (settings .length))
+-- the point that enters it, where the points around it that count are before and behind; and whether it leaves the segment settled
+unfoldable pub placed : Settings → PointF64 → PointF64 → PointF64 → PointF64 → Entering
+unfolding newPoint settled
+placed settings p q before behind =
+    let new = newPoint p q before behind (settings .ratio) in
+    Point new (settled p q new (settings .length))

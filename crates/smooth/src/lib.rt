@@ -1,4 +1,4 @@
-// One round of subdivision: between two points of an outline a third may enter, beside the middle of the two
+// For a planner who wants a smoother outline, one round of subdivision: between two points of an outline a third may enter, beside the middle of the two
 // and away from the points around them, so that the outline bends more gently; corners stay.
 //
 // Lists of points are x, y, x, y, in lent slices; counts are points. Flags are bytes, 1 for a corner.
@@ -12,14 +12,12 @@ mod refusals;
 mod scheme;
 mod segment;
 mod subdivide;
-mod tests;
 
 ghost use mathlib.Core.Path.{_≡_};
 ghost use Rattle.smooth.specs.Answers.{subdividedNumber, subdividedCount, subdividedFinished};
 pub use corners::Pair;
 pub use corners::find_corners;
 use point::Refusal;
-pub use scheme::Entering;
 pub use scheme::Settings;
 pub use subdivide::subdivide_keep_corners;
 

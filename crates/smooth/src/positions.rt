@@ -5,14 +5,15 @@ ghost use mathlib.Core.Path.{_≡_};
 ghost use lib.Dec.{eqb};
 ghost use lib.ListN.{length};
 ghost use Rattle.laws.specs.If.{if_then_else_};
-ghost use Rattle.smooth.specs.Places.{count, placeAt};
-ghost use Rattle.smooth.specs.Segments.{isCorner, prevOf, nextOf};
+ghost use Rattle.point.specs.Points.{count};
+ghost use Rattle.smooth.specs.Places.{placeAt};
+ghost use Rattle.smooth.specs.Segments.{hasFlag, prevOf, nextOf};
 use point::PointF64;
 
 // The neighbour that counts beyond the end `at` of a segment: a corner is its own.
 pub(crate) fn kept(corners: &[u8], at: usize, neighbour: usize) -> usize
     requires { ⌜ (at < length (now corners)) × (neighbour < length (now corners)) ⌝ }
-    ensures { λ r. ⌜ (r ≡ (if isCorner (now (corners .entry)) at then at else neighbour)) × (r < length (now (corners .entry))) ⌝ }
+    ensures { λ r. ⌜ (r ≡ (if hasFlag (now (corners .entry)) at then at else neighbour)) × (r < length (now (corners .entry))) ⌝ }
 {
     if corners[at] == 1 { at } else { neighbour }
 }

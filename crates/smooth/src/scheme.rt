@@ -6,7 +6,7 @@
 // the segment length those of the segments beside it; where a point enters, how far out it lies, and the
 // length of one new segment or both.
 ghost use mathlib.Core.Path.{_≡_};
-ghost use Rattle.smooth.specs.Scheme.{distance, outset, newPoint, twice, skippedBy, settledBy, placedBy};
+ghost use Rattle.smooth.specs.Scheme.{distance, outset, newPoint, twice, skipped, settled, placed};
 use point::PointF64;
 
 // What a round goes by.
@@ -31,14 +31,14 @@ const EPSILON: f64 = 0.0000000000000002220446049250313;
 
 // The point that enters between `p` and `q`, where the points around them that count are `before` and
 // `behind`; and whether both new parts are short.
-pub fn placed(
+pub(crate) fn placed(
     settings: Settings,
     p: PointF64,
     q: PointF64,
     before: PointF64,
     behind: PointF64,
 ) -> Entering
-    ensures { λ r. ⌜ r ≡ placedBy settings p q before behind ⌝ }
+    ensures { λ r. ⌜ r ≡ placed settings p q before behind ⌝ }
 {
     let new = new_point(p, q, before, behind, settings.ratio);
     Entering::Point(new, settled(p, q, new, settings.length))
@@ -46,14 +46,14 @@ pub fn placed(
 
 // Whether the segment from `p` to `q` is left as it is: it is short, or the one before it, from `prev`, or
 // the one behind it, to `next`, is at least twice as long.
-pub fn skipped(
+pub(crate) fn skipped(
     p: PointF64,
     q: PointF64,
     prev: PointF64,
     next: PointF64,
     segment_length: f64,
 ) -> bool
-    ensures { λ r. ⌜ r ≡ skippedBy p q prev next «segment_length» ⌝ }
+    ensures { λ r. ⌜ r ≡ skipped p q prev next «segment_length» ⌝ }
 {
     let curr = distance(p, q);
     if curr <= segment_length {
@@ -74,7 +74,7 @@ fn is_twice(length: f64, curr: f64) -> bool
 
 // Whether both parts of a segment are short: neither is longer than the segment length.
 fn settled(p: PointF64, q: PointF64, new: PointF64, segment_length: f64) -> bool
-    ensures { λ r. ⌜ r ≡ settledBy p q new «segment_length» ⌝ }
+    ensures { λ r. ⌜ r ≡ settled p q new «segment_length» ⌝ }
 {
     if segment_length < distance(p, new) {
         return false;

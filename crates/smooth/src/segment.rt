@@ -1,14 +1,13 @@
 // What enters behind a point of an outline that is smoothed: a point of the segment that leaves it, or
 // nothing.
-//
-// Lists of points are x, y, x, y; flags are bytes, 1 for a corner.
-
 ghost use Prim.Native.Nat.{_≤_, _<_};
 ghost use mathlib.Core.Path.{_≡_};
 ghost use lib.ListN.{length};
-ghost use Rattle.smooth.specs.Places.{count, placeAt};
-ghost use Rattle.smooth.specs.Scheme.{skippedBy};
-ghost use Rattle.smooth.specs.Segments.{entering, entered, enteredBehind, enteredBetween};
+ghost use Rattle.point.specs.Points.{count};
+ghost use Rattle.smooth.specs.Places.{placeAt};
+ghost use Rattle.smooth.specs.Scheme.{skipped};
+ghost use Rattle.smooth.specs.Segments.{entering, enteringBehind};
+ghost use Rattle.smooth.specs.inside.Parts.{enteringBetween};
 use crate::positions::are;
 use crate::positions::kept;
 use crate::positions::next_of;
@@ -19,24 +18,19 @@ use crate::scheme::Settings;
 use crate::scheme::placed;
 use crate::scheme::skipped;
 
-// What enters behind the point at `i` of those that have a flag: nothing where there is no such point. No
-// segment leaves the last point of an open list.
-pub fn enter_behind(
+// What enters behind the point at `i` of those that have a flag. No segment leaves the last point of an open
+// list.
+pub(crate) fn enter_behind(
     points: &[f64],
     corners: &[u8],
     settings: Settings,
     closed: bool,
     i: usize,
 ) -> Entering
-    ensures { λ r. ⌜ r ≡ enteredBehind (now (points .entry)) (now (corners .entry)) settings closed i ⌝ }
+    requires { ⌜ (i < length (now corners)) × (length (now corners) ≤ count (now points)) ⌝ }
+    ensures { λ r. ⌜ r ≡ enteringBehind (now (points .entry)) (now (corners .entry)) settings closed (length (now (corners .entry))) i ⌝ }
 {
     let m = corners.len();
-    if m <= i {
-        return Entering::Nothing;
-    }
-    if points.len() / 2 < m {
-        return Entering::Nothing;
-    }
     if i + 1 < m {
         return enter(points, corners, settings, closed, m, i, i + 1);
     }
@@ -57,7 +51,7 @@ fn enter(
     j: usize,
 ) -> Entering
     requires { ⌜ (i < m) × (j < m) × (m ≡ length (now corners)) × (m ≤ count (now points)) ⌝ }
-    ensures { λ r. ⌜ r ≡ entered (now (points .entry)) settings i j (entering (now (points .entry)) (now (corners .entry)) settings closed m i j) ⌝ }
+    ensures { λ r. ⌜ r ≡ entering (now (points .entry)) (now (corners .entry)) settings closed m i j ⌝ }
 {
     let prev = prev_of(closed, m, i);
     let next = next_of(closed, m, j);
@@ -84,7 +78,7 @@ fn is_skipped(
     next: usize,
 ) -> bool
     requires { ⌜ (i < count (now points)) × (j < count (now points)) × (prev < count (now points)) × (next < count (now points)) ⌝ }
-    ensures { λ r. ⌜ r ≡ skippedBy (placeAt (now (points .entry)) i) (placeAt (now (points .entry)) j)
+    ensures { λ r. ⌜ r ≡ skipped (placeAt (now (points .entry)) i) (placeAt (now (points .entry)) j)
         (placeAt (now (points .entry)) prev) (placeAt (now (points .entry)) next) (settings .length) ⌝ }
 {
     let p = place_at(points, i);
@@ -110,7 +104,7 @@ fn between(
     behind: usize,
 ) -> Entering
     requires { ⌜ (i < count (now points)) × (j < count (now points)) × (before < count (now points)) × (behind < count (now points)) ⌝ }
-    ensures { λ r. ⌜ r ≡ enteredBetween (now (points .entry)) settings i j before behind ⌝ }
+    ensures { λ r. ⌜ r ≡ enteringBetween (now (points .entry)) settings i j before behind ⌝ }
 {
     if are(before, i, behind, j) {
         return Entering::Nothing;

@@ -4,18 +4,18 @@ ghost use mathlib.Core.Bool.{false, _&&_};
 ghost use mathlib.Core.Path.{_≡_};
 ghost use lib.Dec.{ltb};
 ghost use lib.ListN.{length, set};
-ghost use Rattle.smooth.specs.Places.{count, placeAt};
-ghost use Rattle.smooth.specs.Judged.{seen, roomFor};
+ghost use Rattle.point.specs.Points.{count, seen};
+ghost use Rattle.smooth.specs.Places.{placeAt};
 ghost use Rattle.smooth.specs.Round.{roundOf, closing};
-ghost use Rattle.smooth.specs.Calls.{handed, subdividedOf};
-ghost use Rattle.smooth.specs.inside.Parts.{Turned};
+ghost use Rattle.smooth.specs.Calls.{rounded, subdividedOf};
+ghost use Rattle.smooth.specs.inside.Parts.{roomFor, Turned};
 use crate::Subdivided;
-use crate::refusals::Verdict;
 use crate::refusals::judge;
 use crate::scheme::Entering;
 use crate::scheme::Settings;
 use crate::segment;
 use point::PointF64;
+use point::Verdict;
 
 // Puts a list with what enters it at the start of `out`, and a flag for each of its points at the start
 // of `flags`; a closed list's last point, which repeats the first, has none.
@@ -27,7 +27,7 @@ pub fn subdivide_keep_corners(
     out: &mut [f64],
     flags: &mut [u8],
 ) -> Subdivided
-    ensures { λ r. ⌜ record { answer = r; out = now (out .exit); flags = now (flags .exit) }
+    ensures { λ r. ⌜ record { answer = r; out = (now (out .exit), now (flags .exit)) }
         ≡ subdividedOf (now (points .entry)) (now (corners .entry)) settings closed (now (out .entry)) (now (flags .entry)) ⌝ }
 {
     match judge(points, corners, settings, closed, out.len(), flags.len()) {
@@ -46,10 +46,10 @@ fn round(
     out: &mut [f64],
     flags: &mut [u8],
 ) -> Subdivided
-    requires { ⌜ (length (now corners) ≡ seen (now points) closed) × (length (now corners) ≤ count (now points)) × ((closed && ltb (count (now points)) 2) ≡ false)
+    requires { ⌜ (length (now corners) ≡ seen (count (now points)) closed) × (length (now corners) ≤ count (now points)) × ((closed && ltb (count (now points)) 2) ≡ false)
         × (roomFor closed (length (now corners)) ≤ length (now out) / 2) × (roomFor closed (length (now corners)) ≤ length (now flags)) ⌝ }
-    ensures { λ r. ⌜ record { answer = r; out = now (out .exit); flags = now (flags .exit) }
-        ≡ handed (roundOf (now (points .entry)) (now (corners .entry)) settings closed) (closing (now (points .entry)) closed)
+    ensures { λ r. ⌜ record { answer = r; out = (now (out .exit), now (flags .exit)) }
+        ≡ rounded (roundOf (now (points .entry)) (now (corners .entry)) settings closed) (closing (now (points .entry)) closed)
         (now (out .entry)) (now (flags .entry)) ⌝ }
 {
     let mut finished = true;
@@ -59,19 +59,13 @@ fn round(
         let t = turn(points, corners, settings, closed, i, k, out, flags);
         i += 1;
         k = t.k;
-        finished = both(finished, t.settled);
+        finished = finished & t.settled;
     }
     if closed {
         copy(points, 0, k, out);
         return Subdivided::Done(k + 1, finished);
     }
     Subdivided::Done(k, finished)
-}
-
-fn both(a: bool, b: bool) -> bool
-    ensures { λ r. ⌜ r ≡ (a && b) ⌝ }
-{
-    a && b
 }
 
 // What a turn has done: how many points there are then, and whether the point that entered, if one did,

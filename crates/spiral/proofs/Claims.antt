@@ -17,27 +17,33 @@ use prog.Wp.{Heap}
 use denote.Ref.{now}
 use Rattle.laws.proofs.Integers.{abs-sub-le, range-low, range-high}
 use Rattle.laws.specs.If.{if_then_else_}
+use Rattle.laws.proofs.Determined.{Determined, same}
 use Rattle.point.specs.declared.PointI32.{PointI32}
 use Rattle.point.specs.declared.refusal.Refusal.{Refusal}
 use Rattle.point.specs.declared.refusal.Refusal.the-variants.{BadSize}
-use Rattle.spiral.specs.Answers.{freshNumber, turnNumber, advancedNumber}
 use Rattle.spiral.specs.Spiral.{freshState, freshSpiral, sound, alone, onward, spiralTurn, advanced}
+use Rattle.spiral.specs.Answers.{freshNumber, turnNumber, advancedNumber}
 use Rattle.spiral.specs.declared.Fresh.the-variants.{Ready}
 use Rattle.spiral.specs.declared.SpiralWalker.{SpiralWalker}
 use Rattle.spiral.specs.declared.Turn.the-variants.{At, End, Refused}
+use Rattle.spiral.specs.declared.Advanced.{Advanced}
+use Rattle.spiral.specs.declared.AdvancedOutcome.{AdvancedOutcome}
+use Rattle.spiral.specs.declared.Fresh.{Fresh}
+use Rattle.spiral.specs.declared.Turn.{Turn}
 use Rattle.spiral.proofs.Fresh.number.Reads.{Post as Fresh-number}
 use Rattle.spiral.proofs.Turn.number.Reads.{Post as Turn-number}
 use Rattle.spiral.proofs.Advanced.number.Reads.{Post as Advanced-number}
-use Rattle.spiral.specs.declared.Advanced.{Advanced}
-use Rattle.spiral.specs.declared.AdvancedOutcome.{AdvancedOutcome}
 use Rattle.spiral.proofs.turning.spiral.Reads.{Post as Spiral}
 use Rattle.spiral.proofs.turning.spiral_step.Reads.{Post as Spiral-step}
 use Rattle.spiral.proofs.turning.spiral_advance as spiral-advance
-use Rattle.laws.proofs.Determined.{Determined, same}
-use Rattle.spiral.specs.declared.Fresh.{Fresh}
-use Rattle.spiral.specs.declared.Turn.{Turn}
 
--- ---- each contract leaves no choice: of equal arguments it allows one result. `Post` is the contract itself, as Rattle reads it off the source.
+-- ---- Each contract leaves no choice: of equal arguments it allows one result. `Post` is the contract itself, as Rattle reads it off the source.
+
+pub spiral-determined : Determined ℕ Fresh Spiral (λ _ a. a .0) (λ _ r s. r)
+spiral-determined = same freshSpiral (λ _ a r s p. p)
+
+pub spiral-step-determined : Determined SpiralWalker Turn Spiral-step (λ _ a. a .0) (λ _ r s. r)
+spiral-step-determined = same spiralTurn (λ _ a r s p. p)
 
 pub fresh-number-determined : Determined Fresh ℕ Fresh-number (λ _ a. a .0) (λ _ r s. r)
 fresh-number-determined = same freshNumber (λ _ a r s p. p)
@@ -48,7 +54,20 @@ turn-number-determined = same turnNumber (λ _ a r s p. p)
 pub advanced-number-determined : Determined Advanced ℕ Advanced-number (λ _ a. a .0) (λ _ r s. r)
 advanced-number-determined = same advancedNumber (λ _ a r s p. p)
 
--- ---- a size up to 512 has a spiral, and its fresh state is in range: the first step is not refused
+-- `spiral_advance` is proved by hand and has no `Post`. Its one clause, as Rattle reads it off the source, is this fact of the state at entry,
+-- the state at exit and the answer.
+abbrev pub Says : SpiralWalker → SpiralWalker → Advanced → Type 0
+Says entry exit r = record { answer = r; spiral = exit } ≡ advanced entry
+
+pub spiral-advance-says : {M : Type 1} (𝓤 : URA M) (H : Heap 𝓤) (A : Atoms 𝓤) (mem : Memory → SProp 𝓤) (run : Routine → Fun 𝓤) (κs : _) (a : _) (r : _) (s : _) →
+    spiral-advance.clauses 𝓤 H A mem run κs a .ensures tt r s ≡ fact 𝓤 (Says (now (a .0)) (now (s .0)) r)
+spiral-advance-says 𝓤 H A mem run κs a r s = refl
+
+pub spiral-advance-determined : (h h′ e e′ : SpiralWalker) (r r′ : Advanced) → Says h e r → Says h′ e′ r′ → h ≡ h′ →
+    _≡_ {A = AdvancedOutcome} (record { answer = r; spiral = e }) (record { answer = r′; spiral = e′ })
+spiral-advance-determined h h′ e e′ r r′ p q w = p ∙ ap advanced w ∙ sym q
+
+-- ---- A size up to 512 has a spiral, and its fresh state is in range: the first step is not refused.
 
 module _ (size : ℕ) (h : size ≤ 512) where
   pub ready : freshSpiral size ≡ Ready (freshState size)
@@ -69,7 +88,7 @@ module _ (size : ℕ) (h : size ≤ 512) where
         le-leb 0 (size * size) (omega arith),
       )
 
--- ---- a refusal is given exactly where a field is out of range, and it is BadSize
+-- ---- A refusal is given exactly where a field is out of range, and it is BadSize.
 
 pub refused-when : (s : SpiralWalker) → sound s ≡ false → spiralTurn s ≡ Refused BadSize
 refused-when s e = rw e
@@ -88,31 +107,10 @@ refused-only s r e = go (sound s) refl
         absurd
         (not-refused (leb (s .area) (s .step)) (eqb (s .area) 1) (record { x = pos 0; y = pos 0 }) (record { x = s .x; y = s .y }) (alone s) (onward s) r (rw b at e))
 
--- ---- a step in the caller's struct that has no point leaves the struct as it came
+-- ---- A step in the caller's struct that has no point leaves the struct as it came.
 
 pub advance-refused : (s : SpiralWalker) (r : Refusal) → spiralTurn s ≡ Refused r → advanced s .spiral ≡ s
 advance-refused s r e = rw e
 
 pub advance-ended : (s : SpiralWalker) → spiralTurn s ≡ End → advanced s .spiral ≡ s
 advance-ended s e = rw e
-
--- ---- each contract leaves no choice: of equal arguments it allows one result. `Post` is the contract itself, as Rattle reads it off the source.
-
-pub spiral-determined : Determined ℕ Fresh Spiral (λ _ a. a .0) (λ _ r s. r)
-spiral-determined = same freshSpiral (λ _ a r s p. p)
-
-pub spiral-step-determined : Determined SpiralWalker Turn Spiral-step (λ _ a. a .0) (λ _ r s. r)
-spiral-step-determined = same spiralTurn (λ _ a r s p. p)
-
--- `spiral_advance` is proved by hand and has no `Post`. Its one clause, as Rattle reads it off the source, is this fact of the state at entry, the state at exit and the answer.
-abbrev pub Says : SpiralWalker → SpiralWalker → Advanced → Type 0
-Says entry exit r = record { answer = r; spiral = exit } ≡ advanced entry
-
-pub spiral-advance-says : {M : Type 1} (𝓤 : URA M) (H : Heap 𝓤) (A : Atoms 𝓤) (mem : Memory → SProp 𝓤) (run : Routine → Fun 𝓤) (κs : _) (a : _) (r : _) (s : _) →
-    spiral-advance.clauses 𝓤 H A mem run κs a .ensures tt r s ≡ fact 𝓤 (Says (now (a .0)) (now (s .0)) r)
-spiral-advance-says 𝓤 H A mem run κs a r s = refl
-
-pub spiral-advance-determined : (h h′ e e′ : SpiralWalker) (r r′ : Advanced) → Says h e r → Says h′ e′ r′ → h ≡ h′ → (r ≡ r′) × (e ≡ e′)
-spiral-advance-determined h h′ e e′ r r′ p q w =
-    let o : _≡_ {A = AdvancedOutcome} (record { answer = r; spiral = e }) (record { answer = r′; spiral = e′ }) = p ∙ ap advanced w ∙ sym q in
-    (ap (λ (x : AdvancedOutcome). x .answer) o, ap (λ (x : AdvancedOutcome). x .spiral) o)

@@ -16,19 +16,14 @@ abbrev pub freshNumber : Fresh → ℕ
 freshNumber (Fresh.Ready s) = 0
 freshNumber (Fresh.Refused r) = refusalNumber r
 
--- ---- "one step, which answers a point or none": x and y, beside the next state
+-- ---- "one step, which answers a point or none"
 
 abbrev pub turnNumber : Turn → ℕ
 turnNumber (Turn.At p next) = 0
 turnNumber Turn.End = 0
 turnNumber (Turn.Refused r) = refusalNumber r
 
-abbrev pub turnValues : Turn → List ℤ
-turnValues (Turn.At p next) = p .x ∷ p .y ∷ []
-turnValues Turn.End = []
-turnValues (Turn.Refused r) = []
-
--- ---- a step of the caller's own struct
+-- ---- a step of the caller's own struct: x and y
 
 abbrev pub advancedNumber : Advanced → ℕ
 advancedNumber (Advanced.At p) = 0

@@ -1,10 +1,9 @@
 -- Worked examples of the spiral: antt computes each, so `refl` proves it.
-use mathlib.Core.List.{[], _∷_}
 use mathlib.Core.Path.{_≡_, refl}
-use lib.IntN.{ℤ, pos, negsuc}
+use lib.IntN.{ℤ, pos}
 use Rattle.point.specs.declared.PointI32.{PointI32}
 use Rattle.point.specs.declared.refusal.Refusal.the-variants.{BadSize}
-use Rattle.spiral.specs.Spiral.{freshSpiral, spiralTurn, pointsOf, spiralPoints, advanced}
+use Rattle.spiral.specs.Spiral.{freshSpiral, spiralTurn, advanced}
 use Rattle.spiral.specs.declared.Advanced.the-variants as Advanced
 use Rattle.spiral.specs.declared.Fresh.the-variants as Fresh
 use Rattle.spiral.specs.declared.SpiralWalker.{SpiralWalker}
@@ -13,36 +12,7 @@ use Rattle.spiral.specs.declared.Turn.the-variants.{At, Refused}
 abbrev point : ℤ → ℤ → PointI32
 point x y = record { x = x; y = y }
 
--- P12
-p12 : spiralPoints 2 ≡ point (pos 0) (pos 0) ∷ point (pos 1) (pos 0) ∷ point (pos 1) (pos 1) ∷ point (pos 0) (pos 1) ∷ []
-unfolding pointsOf
-p12 = refl
-
--- "size 0 gives none, size 1 gives (0,0)"
-none-of-0 : spiralPoints 0 ≡ []
-unfolding pointsOf
-none-of-0 = refl
-
-one-of-1 : spiralPoints 1 ≡ point (pos 0) (pos 0) ∷ []
-unfolding pointsOf
-one-of-1 = refl
-
--- "Odd sizes from 3 leave the square"
-three-leaves :
-    spiralPoints 3 ≡
-    point (pos 0) (pos 0) ∷
-    point (pos 1) (pos 0) ∷
-    point (pos 1) (pos 1) ∷
-    point (pos 0) (pos 1) ∷
-    point (negsuc 0) (pos 1) ∷
-    point (negsuc 0) (pos 0) ∷
-    point (negsuc 0) (negsuc 0) ∷
-    point (pos 0) (negsuc 0) ∷
-    point (pos 1) (negsuc 0) ∷
-    []
-unfolding pointsOf
-three-leaves = refl
-
+-- "Spiral size 0 to 512"
 past-the-largest : freshSpiral 513 ≡ Fresh.Refused BadSize
 past-the-largest = refl
 

@@ -1,14 +1,12 @@
 -- Document 01, "Spiral": as the Rust's SpiralWalker, one step at a time. Odd sizes from 3 leave the square, as there.
-use Prim.Native.Nat.{ℕ, zero, suc, _+_, _*_, _/_, _%_}
+use Prim.Native.Nat.{ℕ, _+_, _*_, _/_, _%_}
 use mathlib.Core.Bool.{Bool, not, _&&_}
-use mathlib.Core.List.{List, [], _∷_}
 use mathlib.Core.Option.{Option, some, none}
 use lib.Dec.{ltb, leb, eqb}
 use lib.IntN.{ℤ, pos, negsuc, natAbs, _+ℤ_, _-ℤ_}
 use lib.Signed.{leZ, ltZ}
 use Rattle.laws.specs.If.{if_then_else_}
 use Rattle.point.specs.Refusals.{refuse_when_or_}
-use Rattle.point.specs.declared.PointI32.{PointI32}
 use Rattle.point.specs.declared.refusal.Refusal.{Refusal}
 use Rattle.point.specs.declared.refusal.Refusal.the-variants.{BadSize}
 use Rattle.spiral.specs.declared.SpiralWalker.{SpiralWalker}
@@ -146,24 +144,3 @@ advancedBy (Refused r) s = record { answer = Advanced.Refused r; spiral = s }
 
 abbrev pub advanced : SpiralWalker → AdvancedOutcome
 advanced s = advancedBy (spiralTurn s) s
-
--- ---- a spiral to its end
-
--- the points of so many steps, or of those before the first that answers none
-unfoldable pub pointsOf : ℕ → SpiralWalker → List PointI32
-pointsOf zero s = []
-pointsOf (suc steps) s = after (spiralTurn s) (λ next. pointsOf steps next)
-  where
-    after : Turn → (SpiralWalker → List PointI32) → List PointI32
-    after (At p next) on = p ∷ on next
-    after End on = []
-    after (Refused r) on = []
-
--- the points of a fresh spiral: a refused one has none
-abbrev pub freshPoints : ℕ → Fresh → List PointI32
-freshPoints steps (Fresh.Ready s) = pointsOf steps s
-freshPoints steps (Fresh.Refused r) = []
-
--- all the points of the spiral of a size: one step more than its square has cells, so that the last answers none
-abbrev pub spiralPoints : ℕ → List PointI32
-spiralPoints size = freshPoints (suc (size * size)) (freshSpiral size)

@@ -1,4 +1,5 @@
-// A walk of a square, cell by cell, from its centre outwards.
+// Spirals, for whoever looks for the nearest cell first: a walk of a square, cell by cell, from its centre
+// outwards.
 //
 // The state goes by value, and is answered anew with each point; `spiral_advance` moves it on in the
 // caller's own struct.

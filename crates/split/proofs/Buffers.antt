@@ -7,8 +7,10 @@ use lib.IntN.{ℤ}
 use lib.ListN.{length, take, drop, set, length-set}
 use lib.Seq.{sets, sets-eq, set-split, drop-at, length-take-le, append-snoc}
 use borrow.Author.Tests.{lt-ltb, le-ltb, eq-eqb, ne-eqb}
-use Rattle.split.specs.Marks.{laid}
+use Rattle.laws.specs.Lists.{over}
+use Rattle.split.specs.Buffers.{laid}
 use Rattle.split.specs.Tree.{Tree, leaf, framed, spanTree, tree, size}
+use Rattle.split.proofs.Framed.{framed-length}
 use Rattle.split.proofs.Trees.{span-size, tree-none}
 
 module _ {A : Type 0} where
@@ -40,7 +42,7 @@ module _ {A : Type 0} (points : List ℤ) where
   pub laid-no-room : (new old : List A) → (length points / 2 ≡ 0 → ⊥) → length old < length points / 2 → old ≡ laid points new old
   laid-no-room new old n h = rw (ne-eqb (length points / 2) 0 n, lt-ltb (length old) (length points / 2) h)
 
-  pub laid-over : (new old : List A) → (length points / 2 ≡ 0 → ⊥) → length points / 2 ≤ length old → laid points new old ≡ new ++ drop (length points / 2) old
+  pub laid-over : (new old : List A) → (length points / 2 ≡ 0 → ⊥) → length points / 2 ≤ length old → laid points new old ≡ over new old
   laid-over new old n h = rw (ne-eqb (length points / 2) 0 n, le-ltb (length old) (length points / 2) h)
 
 -- a list made of the tree, one for each split, with the ends around it
@@ -59,9 +61,9 @@ module _ {A : Type 0} (points : List ℤ) (end : A) (f : Tree → List A) (sized
   pub all-laid : (m m′ : List A) → (length points / 2 ≡ 0 → ⊥) → length points / 2 ≤ length m
       → m′ ≡ sets (set (set m 0 end) (length points / 2 - 1) end) (0 + 1) (f (spanTree points 0 (length points / 2 - 1)))
       → m′ ≡ laid points (framed points end (f (tree points))) m
-  unfolding tree
+  unfolding tree over
   all-laid m m′ n l h =
       let e : length points / 2 ≡ suc (length points / 2 - 1) = omega arith in
       h ∙ framed-stored (length points / 2 - 1) e m (rw e at l)
-      ∙ ap (λ (k : ℕ). framed points end (f (tree points)) ++ drop k m) (sym e)
+      ∙ ap (λ (k : ℕ). framed points end (f (tree points)) ++ drop k m) (sym e ∙ sym (framed-length points end f sized (omega arith)))
       ∙ sym (laid-over points (framed points end (f (tree points))) m n l)

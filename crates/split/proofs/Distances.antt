@@ -4,21 +4,19 @@ use Prim.Native.Nat.{ℕ, suc, _+_, _*_, _≤_, _<_, max}
 use mathlib.Core.Bool.{Bool, true, false, true≢false}
 use mathlib.Core.Logic.{_⊎_, inl, inr}
 use mathlib.Core.Path.{_≡_, refl}
-use native.Mathlib.Nat.{zero-mul, le-trans, le-of-eq, mul-le-mul, mul-pos, mul-le-mul-right, mul-comm, le-add-right, le-add-left, zero-lt-suc}
+use native.Mathlib.Nat.{le-trans, le-of-eq, mul-le-mul, mul-pos, mul-le-mul-right, mul-comm, le-add-right, le-add-left, zero-lt-suc}
 use native.Mathlib.Omega.{arith}
 use lib.Dec.{T, lit≤, leb}
-use lib.IntN.{ℤ, pos, natAbs, _-ℤ_}
-use lib.Ieee.{Float, nan, inf, fin, binary64, up, down, round, ofInt, ofBits, neg, add, sub, mul, sum, le, lt, ne, fits}
-use lib.Ieee.Fits.{up-pos, down-pos, add-fits}
+use lib.IntN.{ℤ, natAbs, _-ℤ_}
+use lib.Ieee.{Float, nan, inf, fin, binary64, up, down, round, ofInt, add, sub, mul, sum, le, lt, ne, fits}
+use lib.Ieee.Fits.{down-pos, add-fits}
 use lib.Ieee.Exact.{HasValue}
 use lib.Ieee.Back.{round-whole}
 use lib.Ieee.Order.{round-mono}
 use lib.Ieee.Positive.{positive, positive-of-value, own-value, above-of-le, values-of-le}
-use borrow.Author.Tests.{lt-ltb}
 use Rattle.laws.proofs.Integers.{abs-pos}
 use Rattle.laws.proofs.Finite.{Below, Big, below-mono, ofInt-below, add-below, sub-below, mul-below, div-below, add-nonneg, square-nonneg}
-use Rattle.laws.specs.Finite.{NonNeg}
-use Rattle.laws.proofs.Order.{AtLeastZero, at-least-zero}
+use Rattle.laws.specs.inside.Finite.{NonNeg}
 use Rattle.laws.proofs.Whole.{Whole, ofInt-whole, zero-whole, sub-whole, whole-big}
 use Rattle.laws.proofs.WholeTests.{ne-true-whole}
 use Rattle.laws.specs.If.{if_then_else_}
@@ -26,7 +24,11 @@ use Rattle.point.specs.declared.PointI32.{PointI32}
 use Rattle.point.specs.declared.PointF64.{PointF64}
 use Rattle.split.specs.Distance.{zero64, one64, placeOf, squares, along, hasLength, nearest, foot, fromPlace, sqSegDist}
 use Rattle.split.specs.declared.distance.Segment.{Segment}
-use Rattle.split.specs.inside.Small.{Small}
+
+-- the coordinates of an i32 point lie within 2 ^ 31 of zero
+pub record Small (p : PointI32) : Type 0 where
+  pub small-x : natAbs (p .x) ≤ 2147483648
+  pub small-y : natAbs (p .y) ≤ 2147483648
 
 -- ---- what is 1 at least stays so: rounding keeps the order, and 1 is a value of the format
 
@@ -173,20 +175,3 @@ module _ (p a b : PointI32) (P : Small p) (A : Small a) (B : Small b) where
 pub distance-fits : (p a b : PointI32) → T (fits binary64 (sqSegDist p a b))
 unfolding sqSegDist
 distance-fits p a b = add-fits binary64 _ _
-
--- so it is above -1
-pub under-all : (m : ℕ) (e : ℤ) (x : Float) → AtLeastZero x → lt (fin true (suc m) e) x ≡ true
-unfolding lt
-under-all m e nan p = absurd (p .zero-or-more)
-under-all m e (inf true) p = absurd (true≢false (p .zero-or-more))
-under-all m e (inf false) p = refl
-under-all m e (fin false n d) p =
-    let h : 0 < suc m * up e * down d = mul-pos (mul-pos (zero-lt-suc m) (up-pos e)) (down-pos d) in
-    lt-ltb 0 (suc m * up e * down d + n * up d * down e) (omega arith)
-under-all m e (fin true n d) p =
-    let h : 0 < suc m * up e * down d = mul-pos (mul-pos (zero-lt-suc m) (up-pos e)) (down-pos d) in
-    rw (p .zero-or-more refl, zero-mul, zero-mul) (lt-ltb 0 (suc m * up e * down d) h)
-
-pub above-minus-one : {x : Float} → NonNeg x → lt (neg one64) x ≡ true
-unfolding ofBits neg
-above-minus-one {x} p = under-all 0 (pos 0) x (at-least-zero p)

@@ -1,18 +1,13 @@
 -- The fold `farther`, which passes one position after the other: what holds of all distances holds of the one it ends at, and it ends inside.
 -- Assumes nothing.
-use Prim.Native.Nat.{ℕ, zero, suc, _+_, _-_, _≤_, _<_}
+use Prim.Native.Nat.{ℕ, zero, suc, _+_, _≤_, _<_}
 use mathlib.Core.Bool.{Bool, true, false}
-use mathlib.Core.List.{List}
-use mathlib.Core.Path.{_≡_, refl, sym, ap, subst, _∙_}
+use mathlib.Core.Path.{_≡_, refl, sym, subst}
 use native.Mathlib.Nat.{le-refl}
 use native.Mathlib.Omega.{arith}
-use lib.IntN.{ℤ}
-use lib.Ieee.{Float, neg, lt}
-use borrow.Author.Tests.{lt-ltb, le-ltb}
-use Rattle.point.specs.Points.{count}
+use lib.Ieee.{Float, lt}
 use Rattle.split.specs.declared.farthest.Far.{Far}
-use Rattle.split.specs.Distance.{one64}
-use Rattle.split.specs.Farthest.{distanceIn, farther, farthest, farthestIn}
+use Rattle.split.specs.Farthest.{farther}
 
 abbrev pub far : ℕ → Float → Far
 far k d = record { index = k; distance = d }
@@ -62,27 +57,3 @@ module _ (d : ℕ → Float) where
   farther-within (suc n) k b low high p q l u =
       by-test n k b (λ r. (low ≤ r .index) × (r .index < high)) (λ e. farther-within n (suc k) (far k (d k)) low high l (omega arith) (omega arith) (omega arith))
       (λ e. farther-within n (suc k) b low high p q (omega arith) (omega arith))
-
--- from below the first distance the fold ends where it ends from the first on
-pub from-below : (points : List ℤ) (first last : ℕ) (floor : Float) → suc first < last → lt floor (distanceIn points first last (suc first)) ≡ true
-    → farther (distanceIn points first last) (last - suc first) (suc first) (far first floor) ≡ farthest points first last
-unfolding farthest
-from-below points first last floor h e =
-    let n : last - suc first ≡ suc (last - suc (suc first)) = omega arith in
-    ap (λ (n : ℕ). farther (distanceIn points first last) n (suc first) (far first floor)) n
-    ∙ farther-taken (distanceIn points first last) (last - suc (suc first)) (suc first) (far first floor) e
-
--- ---- of any two positions
-
-module _ (points : List ℤ) (first last : ℕ) where
-  pub found-in : last < count points → suc first < last → farthestIn points first last ≡ farthest points first last
-  unfolding farthestIn
-  found-in h o = rw (lt-ltb last (count points) h, lt-ltb (suc first) last o)
-
-  pub past-the-end : count points ≤ last → farthestIn points first last ≡ far first (neg one64)
-  unfolding farthestIn
-  past-the-end h = rw (le-ltb last (count points) h)
-
-  pub none-inside : last < count points → last ≤ suc first → farthestIn points first last ≡ far first (neg one64)
-  unfolding farthestIn
-  none-inside h o = rw (lt-ltb last (count points) h, le-ltb (suc first) last o)

@@ -1,10 +1,12 @@
+-- `Claims` has what callers cite. The theorems on splits, marks and numbers that a reader may want stand in the crate `nesting`; these are the
+-- laws that the proofs of the functions, and that crate, are made of.
 pub mod Claims
 pub mod Distances
 pub mod Folds
-pub mod Spans
-pub mod Stores
-pub mod Buffers
-pub mod Cuts
-pub mod Frames
 pub mod Trees
+pub mod Cuts
 pub mod Signs
+pub mod Framed
+pub mod Stores
+pub mod Spans
+pub mod Buffers

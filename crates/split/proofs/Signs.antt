@@ -8,7 +8,7 @@ use mathlib.Core.Path.{_≡_, refl, sym}
 use lib.Dec.{T}
 use lib.IntN.{ℤ}
 use lib.Ieee.{Float, nan, inf, fin, binary64, up, down, add, mul, lt, fits}
-use Rattle.laws.specs.Finite.{NonNeg}
+use Rattle.laws.specs.inside.Finite.{NonNeg}
 use Rattle.laws.proofs.Finite.{infinity-nonneg, round-nonneg, add-nonneg}
 use Rattle.laws.specs.Least.{least}
 use Rattle.laws.proofs.Least.{least-cases}

@@ -14,14 +14,14 @@ use lib.Seq.{sets}
 use borrow.Author.Tests.{le-ltb, not-true}
 use Rattle.laws.proofs.Joined.{both-true}
 use Rattle.laws.proofs.Compare.{eq-is}
-use Rattle.laws.specs.Finite.{NonNeg}
+use Rattle.laws.specs.inside.Finite.{NonNeg}
 use Rattle.laws.proofs.Finite.{nonneg-number}
 use Rattle.laws.proofs.Order.{at-least-zero, upper, lower, lt-is, lt-antisymmetric}
 use Rattle.laws.specs.Least.{least}
 use Rattle.laws.proofs.Least.{least-cases}
 use Rattle.split.specs.declared.farthest.Far.{Far}
 use Rattle.split.specs.Distance.{zero64}
-use Rattle.split.specs.inside.Spans.{Distance, Split}
+use Rattle.split.specs.inside.Spans.{Distance, FoundInside}
 use Rattle.split.specs.Tree.{Tree, node, spanTree, size, cut, down}
 use Rattle.split.proofs.Cuts.{length-cut, length-down, cut-kept, cut-dropped, down-from-least}
 use Rattle.split.proofs.Stores.{spans-stored}
@@ -37,7 +37,7 @@ module _ (points : List ℤ) (t : Float) (first last : ℕ) where
       let k : last ≤ suc first = omega arith in
       ap (λ (r : Tree). sets m (first + 1) (cut t r)) (sym (tree-none points (last - first) first last k))
 
-  module _ (far : Far) (f : Split points first last far) (o : first + 1 < last) where
+  module _ (far : Far) (f : FoundInside points first last far) (o : first + 1 < last) where
     pub all-dropped : (m m′ : List ℕ) → lt t (far .distance) ≡ false → m′ ≡ sets m (first + 1) (replicate (last - (first + 1)) 0)
         → m′ ≡ sets m (first + 1) (cut t (spanTree points first last))
     all-dropped m m′ n h =
@@ -109,7 +109,7 @@ module _ (points : List ℤ) (around : Float) (first last : ℕ) where
       let k : last ≤ suc first = omega arith in
       ap (λ (r : Tree). sets m (first + 1) (down around r)) (sym (tree-none points (last - first) first last k))
 
-  module _ (far : Far) (f : Split points first last far) (o : first + 1 < last) where
+  module _ (far : Far) (f : FoundInside points first last far) (o : first + 1 < last) where
     distant : Square (far .distance)
     distant = subst (λ (r : Far). Square (r .distance)) (sym (f .is)) (reach-square points first last)
 

@@ -1,23 +1,16 @@
 -- Document 01, "Numbers" and "reduce.rs": where a span of a list of points is split.
 use Prim.Native.Nat.{ℕ, zero, suc, _-_}
-use mathlib.Core.Bool.{_&&_}
 use mathlib.Core.List.{List}
-use lib.Dec.{ltb}
 use lib.IntN.{ℤ}
-use lib.Ieee.{Float, neg, lt}
+use lib.Ieee.{Float, lt}
 use Rattle.laws.specs.If.{if_then_else_}
-use Rattle.point.specs.Points.{count, pointAt}
-use Rattle.split.specs.Distance.{one64, placeOf, segmentOf, sqSegDist}
-use Rattle.split.specs.declared.distance.Segment.{Segment}
+use Rattle.point.specs.Points.{pointAt}
+use Rattle.split.specs.Distance.{sqSegDist}
 use Rattle.split.specs.declared.farthest.Far.{Far}
 
 -- how far the point at a position lies from the segment between the ends of a span. `Far` is a position with its distance
 abbrev pub distanceIn : List ℤ → ℕ → ℕ → ℕ → Float
 distanceIn points first last k = sqSegDist (pointAt points k) (pointAt points first) (pointAt points last)
-
--- the segment between a span's ends
-unfoldable pub lineOf : List ℤ → ℕ → ℕ → Segment
-lineOf points first last = segmentOf (placeOf (pointAt points first)) (placeOf (pointAt points last))
 
 -- the farther of two, the first of equals
 abbrev pub fartherOf : Far → Far → Far
@@ -34,9 +27,3 @@ unfolding farther
 farthest points first last =
     let d = distanceIn points first last in
     farther d (last - suc (suc first)) (suc (suc first)) (record { index = suc first; distance = d (suc first) })
-
--- the splitting point between any two positions: where the list has no point between them it is the first, at distance -1
-unfoldable pub farthestIn : List ℤ → ℕ → ℕ → Far
-unfolding farthest
-farthestIn points first last =
-    if ltb last (count points) && ltb (suc first) last then farthest points first last else record { index = first; distance = neg one64 }

@@ -9,9 +9,8 @@ use lib.Ieee.{Float, inf, lt}
 use lib.ListN.{replicate}
 use Rattle.laws.specs.Least.{least}
 use Rattle.laws.specs.If.{if_then_else_}
-pub use Rattle.point.specs.Points.{count, pointAt}
-pub use Rattle.split.specs.Farthest.{distanceIn}
-unfoldable pub use Rattle.split.specs.Farthest.{farthest}
+use Rattle.point.specs.Points.{count}
+use Rattle.split.specs.Farthest.{farthest}
 
 -- ---- the tree of splits: a node is a split at a position, with its distance and the trees of the span before it and of the one behind it; a span
 -- without interior is a leaf

@@ -1,2 +1,2 @@
+-- What private functions promise one another: nobody need believe it.
 pub mod Spans
-pub mod Small

@@ -1,10 +1,10 @@
 // Where a span is split.
-ghost use Prim.Native.Nat.{_<_};
+ghost use Prim.Native.Nat.{_+_, _<_};
 ghost use mathlib.Core.Path.{_≡_};
 ghost use Rattle.point.specs.Points.{count, pointAt};
 ghost use Rattle.split.specs.Distance.{fromSegment};
-ghost use Rattle.split.specs.Farthest.{lineOf, fartherOf, farthestIn};
-ghost use Rattle.split.specs.inside.Small.{SmallAt};
+ghost use Rattle.split.specs.Farthest.{fartherOf};
+ghost use Rattle.split.specs.inside.Spans.{lineOf, FoundInside};
 use crate::distance::Segment;
 use crate::distance::between;
 use crate::distance::get_sq_seg_dist;
@@ -16,23 +16,18 @@ pub struct Far {
     pub distance: f64,
 }
 
-// The interior point of a span that lies farthest from the segment between its ends, the earliest
-// of equals. Where the list has no such point it is the first end, at distance -1.
-pub fn farthest(points: &[i32], first: usize, last: usize) -> Far
-    ensures { λ r. ⌜ r ≡ farthestIn (now (points .entry)) first last ⌝ }
+// The splitting point of a span: the interior point that lies farthest from the segment between its
+// ends, the earliest of equals.
+pub(crate) fn farthest(points: &[i32], first: usize, last: usize) -> Far
+    requires { ⌜ (first + 1 < last) × (last < count (now points)) ⌝ }
+    ensures { λ r. ⌜ FoundInside (now (points .entry)) first last r ⌝ }
 {
-    let mut far = Far {
-        index: first,
-        distance: -1.0,
-    };
-    if points.len() / 2 <= last {
-        return far;
-    }
-    if last <= first {
-        return far;
-    }
     let line = line_of(points, first, last);
-    let mut i = first + 1;
+    let mut far = Far {
+        index: first + 1,
+        distance: distance_at(points, first + 1, line),
+    };
+    let mut i = first + 2;
     while i < last {
         far = farther_of(
             far,
@@ -59,7 +54,7 @@ fn farther_of(a: Far, b: Far) -> Far
 // The segment between the ends of a span.
 fn line_of(points: &[i32], first: usize, last: usize) -> Segment
     requires { ⌜ (first < last) × (last < count (now points)) ⌝ }
-    ensures { λ r. ⌜ (r ≡ lineOf (now (points .entry)) first last) × SmallAt (now (points .entry)) first × SmallAt (now (points .entry)) last ⌝ }
+    ensures { λ r. ⌜ r ≡ lineOf (now (points .entry)) first last ⌝ }
 {
     between(point_at(points, first), point_at(points, last))
 }
@@ -67,14 +62,15 @@ fn line_of(points: &[i32], first: usize, last: usize) -> Segment
 // The square of the distance from the point at a position to a segment.
 fn distance_at(points: &[i32], k: usize, line: Segment) -> f64
     requires { ⌜ k < count (now points) ⌝ }
-    ensures { λ r. ⌜ (r ≡ fromSegment (pointAt (now (points .entry)) k) line) × SmallAt (now (points .entry)) k ⌝ }
+    ensures { λ r. ⌜ r ≡ fromSegment (pointAt (now (points .entry)) k) line ⌝ }
 {
     get_sq_seg_dist(point_at(points, k), line)
 }
 
+// The point at a position that the list has: here, in the innermost loop, nothing is tested.
 fn point_at(points: &[i32], k: usize) -> PointI32
     requires { ⌜ k < count (now points) ⌝ }
-    ensures { λ r. ⌜ (r ≡ pointAt (now (points .entry)) k) × SmallAt (now (points .entry)) k ⌝ }
+    ensures { λ r. ⌜ r ≡ pointAt (now (points .entry)) k ⌝ }
 {
     PointI32 {
         x: points[k * 2],

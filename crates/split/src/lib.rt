@@ -1,4 +1,4 @@
-// The tree of splits of a list of points, walked twice: cut at a tolerance it gives the marks of
+// For `reduce`: the tree of splits of a list of points, walked twice. Cut at a tolerance it gives the marks of
 // Douglas-Peucker, and whole it gives one number per point that decides at every tolerance. A span is split at
 // its point that lies farthest from the segment between its ends.
 //
@@ -11,7 +11,6 @@ mod distance;
 mod farthest;
 mod marks;
 mod numbers;
-mod span;
 
 pub use marks::mark;
 pub use numbers::number;

@@ -4,14 +4,15 @@ ghost use Prim.Native.Nat.{_+_, _-_, _<_, _≤_};
 ghost use mathlib.Core.Path.{_≡_};
 ghost use lib.ListN.{length, replicate};
 ghost use lib.Seq.{sets};
-ghost use Rattle.split.specs.Marks.{markedOf};
-ghost use Rattle.split.specs.Tree.{count, spanTree, cut};
-use crate::span::split_point;
+ghost use Rattle.point.specs.Points.{count};
+ghost use Rattle.split.specs.Buffers.{laidMarks};
+ghost use Rattle.split.specs.Tree.{spanTree, cut};
+use crate::farthest::farthest;
 
 // Puts a mark for each point at the start of `marks`: 1 if it is kept at the squared tolerance, 0 if
 // not. Where there is no point, or no mark for each, nothing is changed.
 pub fn mark(points: &[i32], tolerance: f64, marks: &mut [u8])
-    ensures { λ _. ⌜ now (marks .exit) ≡ markedOf (now (points .entry)) tolerance (now (marks .entry)) ⌝ }
+    ensures { λ _. ⌜ now (marks .exit) ≡ laidMarks (now (points .entry)) tolerance (now (marks .entry)) ⌝ }
 {
     let n = points.len() / 2;
     if n == 0 {
@@ -33,7 +34,7 @@ fn mark_span(points: &[i32], first: usize, last: usize, tolerance: f64, marks: &
     if last <= first + 1 {
         return;
     }
-    let far = split_point(points, first, last);
+    let far = farthest(points, first, last);
     let index = far.index;
     if tolerance < far.distance {
         mark_span(points, first, index, tolerance, marks);

@@ -5,16 +5,17 @@ ghost use mathlib.Core.Path.{_≡_};
 ghost use lib.ListN.{length, replicate};
 ghost use lib.Seq.{sets};
 ghost use Rattle.laws.specs.Least.{least};
+ghost use Rattle.point.specs.Points.{count};
+ghost use Rattle.split.specs.Buffers.{laidNumbers};
 ghost use Rattle.split.specs.Distance.{zero64};
-ghost use Rattle.split.specs.Marks.{numberedOf};
+ghost use Rattle.split.specs.Tree.{spanTree, down};
 ghost use Rattle.split.specs.inside.Spans.{Distance};
-ghost use Rattle.split.specs.Tree.{count, spanTree, down};
-use crate::span::split_point;
+use crate::farthest::farthest;
 
 // Puts the number of each point at the start of `out`. Where there is no point, or no place for
 // each number, nothing is changed.
 pub fn number(points: &[i32], out: &mut [f64])
-    ensures { λ _. ⌜ now (out .exit) ≡ numberedOf (now (points .entry)) (now (out .entry)) ⌝ }
+    ensures { λ _. ⌜ now (out .exit) ≡ laidNumbers (now (points .entry)) (now (out .entry)) ⌝ }
 {
     let n = points.len() / 2;
     if n == 0 {
@@ -39,7 +40,7 @@ fn number_span(points: &[i32], first: usize, last: usize, around: f64, out: &mut
     if last <= first + 1 {
         return;
     }
-    let far = split_point(points, first, last);
+    let far = farthest(points, first, last);
     let index = far.index;
     let distance = far.distance;
     if distance == 0.0 {

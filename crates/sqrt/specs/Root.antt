@@ -3,7 +3,7 @@
 use Prim.Native.Nat.{ℕ, zero, suc, _+_, _-_, _*_, _/_, _^_, compare}
 use mathlib.Core.Bool.{Bool, true, false}
 use lib.Dec.{leb}
-use lib.Ieee.{Float, nan, inf, fin, Format, prec, low, up, down, size, nearest, units}
+use lib.Ieee.{Float, nan, inf, fin, Format, binary64, prec, low, up, down, size, nearest, units, toBits, ofBits}
 
 -- r, or r + 1 if the square of that is still at most n
 abbrev pub step : ℕ → ℕ → Bool → ℕ
@@ -44,3 +44,7 @@ rootOf f (inf true) = nan
 rootOf f (fin s zero e) = fin s zero e
 rootOf f (fin true (suc m) e) = nan
 rootOf f (fin false (suc m) e) = nearestRoot f (inSquares f (suc m * up e) (down e))
+
+-- The answer to a pattern: the pattern of the root of the double that it stands for.
+abbrev pub rootBits : ℕ → ℕ
+rootBits p = toBits binary64 (rootOf binary64 (ofBits binary64 p))

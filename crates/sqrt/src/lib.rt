@@ -1,4 +1,5 @@
-// The square root of a double, worked out from its bits; and, passed on, a double's bits.
+// The square root of a double, worked out from its bits, for whoever measures a length; and, passed on, a
+// double's bits.
 //
 // Every answer is the root as IEEE 754 asks for it: the value nearest to the exact root; no root lies
 // halfway between two. Nothing here fails, for any of the 2^64 patterns or any f64.

@@ -2,9 +2,9 @@
 // digits that are found, twice. One word holds the root so far, one what is left of the square.
 ghost use mathlib.Core.Path.{_≡_};
 ghost use Prim.Native.Nat.{_+_, _-_, _*_, _^_, _<_, _≤_};
-ghost use lib.Ieee.{binary64, toBits, ofBits};
-ghost use Rattle.sqrt.specs.Nearest.{NearestWhole, Found};
-ghost use Rattle.sqrt.specs.Root.{nearestRoot, rootOf};
+ghost use lib.Ieee.{binary64, toBits};
+ghost use Rattle.sqrt.specs.inside.Whole.{NearestWhole, Found};
+ghost use Rattle.sqrt.specs.Root.{nearestRoot, rootOf, rootBits};
 
 // The weight of the leading one of a significand's 53 digits, its root, and the root of that.
 const LEADING: u64 = 0x10_0000_0000_0000;
@@ -29,7 +29,7 @@ pub fn sqrt(x: f64) -> f64
 // The bits of the square root of the double whose bits are `b`. A zero and +infinity are their own
 // roots; the root of a NaN, or of anything below zero, is NAN.
 pub fn sqrt_bits(b: u64) -> u64
-    ensures { λ r. ⌜ r ≡ toBits binary64 (rootOf binary64 (ofBits binary64 b)) ⌝ }
+    ensures { λ r. ⌜ r ≡ rootBits b ⌝ }
 {
     if b % bits::SIGN == 0 {
         return b;

@@ -14,7 +14,7 @@ use borrow.Author.Tests.{lt-ltb, le-ltb, ltb-true, ltb-false}
 use Rattle.laws.specs.If.{if_then_else_}
 use Rattle.laws.specs.Lists.{over}
 use Rattle.laws.proofs.Lists.{take-over-all}
-use Rattle.pbm.specs.Calls.{Outcome, readOf}
+use Rattle.pbm.specs.Read.{Reading as Outcome, readOf}
 use Rattle.pbm.specs.declared.Picture.{Picture}
 use Rattle.pbm.specs.declared.Picture.the-variants as Picture
 use Rattle.pbm.proofs.theorems.Behind.{nothing-more-matters}
@@ -30,8 +30,8 @@ unfolding whole surveyText
 nothing-follows file more is = by (readOf file chartRoom .answer) refl is
   where
     by : (p : Picture) → readOf file chartRoom .answer ≡ p → isRead p ≡ true →
-        textOf (readOf (file ++ more) chartRoom .answer) (readOf (file ++ more) chartRoom .pixels) ≡ textOf (readOf file chartRoom .answer) (readOf file chartRoom .pixels)
-    by (Picture.Read c n) e t = ap (λ (o : Outcome). textOf (o .answer) (o .pixels)) (nothing-more-matters file more chartRoom c n e)
+        textOf (readOf (file ++ more) chartRoom .answer) (readOf (file ++ more) chartRoom .out) ≡ textOf (readOf file chartRoom .answer) (readOf file chartRoom .out)
+    by (Picture.Read c n) e t = ap (λ (o : Outcome). textOf (o .answer) (o .out)) (nothing-more-matters file more chartRoom c n e)
     by (Picture.Refused r) e t = absurd (false≢true t)
 
 -- nor whether it is whole
@@ -46,11 +46,11 @@ still-whole file more is = by (readOf file chartRoom .answer) refl is
 -- ---- steps
 
 module _ (file : List ℕ) (more : Bool) (output : List ℕ) where
-  writes : more && not (whole file) ≡ false → stepOf file more output ≡ record { turn = Write (length (surveyText file)); output = over (surveyText file) output }
+  writes : more && not (whole file) ≡ false → stepOf file more output ≡ record { answer = Write (length (surveyText file)); out = over (surveyText file) output }
   unfolding stepOf
   writes t = rw t
 
-  reads : more && not (whole file) ≡ true → stepOf file more output ≡ record { turn = Read; output = output }
+  reads : more && not (whole file) ≡ true → stepOf file more output ≡ record { answer = Read; out = output }
   unfolding stepOf
   reads t = rw t
 
@@ -59,15 +59,15 @@ never-waits true = refl
 never-waits false = refl
 
 -- what a machine does that has not ended
-goes : (m : Machine) (s : Step) → m .ended ≡ false → stepIn m ≡ s → turned m ≡ done (s .turn) (left m (s .output))
+goes : (m : Machine) (s : Step) → m .ended ≡ false → stepIn m ≡ s → turned m ≡ done (s .answer) (left m (s .out))
 unfolding turned
 goes m s live e =
-    ap (λ (b : Bool). if b then m else done (stepIn m .turn) (left m (stepIn m .output))) live
-    ∙ ap (λ (t : Step). done (t .turn) (left m (t .output))) e
+    ap (λ (b : Bool). if b then m else done (stepIn m .answer) (left m (stepIn m .out))) live
+    ∙ ap (λ (t : Step). done (t .answer) (left m (t .out))) e
 
 rests : (m : Machine) → m .ended ≡ true → turned m ≡ m
 unfolding turned
-rests m e = ap (λ (b : Bool). if b then m else done (stepIn m .turn) (left m (stepIn m .output))) e
+rests m e = ap (λ (b : Bool). if b then m else done (stepIn m .answer) (left m (stepIn m .out))) e
 
 -- ---- bytes
 

@@ -13,8 +13,8 @@ use Rattle.chart.specs.declared.Start.{Start}
 use Rattle.chart.specs.declared.Start.the-variants as Start
 use Rattle.walker.specs.Answers.{walkedNumber, walkedCount}
 use Rattle.simplify.specs.Simplify.{simplifyOf}
-use Rattle.reduce.specs.Reduce.{numberedOf}
-use Rattle.texts.specs.Put.{Outcome, put}
+use Rattle.reduce.specs.Numbers.{numberedOf}
+use Rattle.texts.specs.Put.{Placed, put}
 use Rattle.texts.proofs.Pieces.{put-fits, put-then}
 use Rattle.lines.specs.Turns.{line}
 use Rattle.frames.specs.Replies.{pointsText}
@@ -24,7 +24,7 @@ use Rattle.frames.proofs.Sizes.{length-points}
 use Rattle.frames.specs.Calls.{walkReply, simplifyReply, numbersReply}
 use Rattle.frames.proofs.Room.{walk-counts}
 use Rattle.frames.proofs.Claims.{simplified-short, numbered-short}
-use Rattle.pbm.specs.Calls.{readOf}
+use Rattle.pbm.specs.Read.{readOf}
 use Rattle.pbm.specs.declared.Picture.{Picture}
 use Rattle.pbm.specs.declared.Picture.the-variants as Picture
 use Rattle.survey.specs.Survey.{outlineFrom, outlineOf, outlined, kept, twoLines, threeLines, refusedLine, textOf, chartRoom, surveyText}
@@ -79,22 +79,22 @@ pub survey-short : (file : List ℕ) → length (surveyText file) ≤ 98307
 unfolding surveyText
 survey-short file = by (readOf file chartRoom .answer)
   where
-    by : (p : Picture) → length (textOf p (readOf file chartRoom .pixels)) ≤ 98307
-    by (Picture.Read c bytes) = three-short c (readOf file chartRoom .pixels)
+    by : (p : Picture) → length (textOf p (readOf file chartRoom .out)) ≤ 98307
+    by (Picture.Read c bytes) = three-short c (readOf file chartRoom .out)
     by (Picture.Refused r) = refused-short (refusalNumber r)
 
 -- ---- what is put
 
 -- a text and a newline are a line
 pub line-put : (text out mid last : List ℕ) (at m r : ℕ) → length text ≤ 32768 → at + 32769 ≤ length out →
-    record { next = m; out = mid } ≡ put text out at → record { next = r; out = last } ≡ put (10 ∷ []) mid m →
-    record { next = r; out = last } ≡ put (line text) out at
+    record { answer = m; out = mid } ≡ put text out at → record { answer = r; out = last } ≡ put (10 ∷ []) mid m →
+    record { answer = r; out = last } ≡ put (line text) out at
 line-put text out mid last at m r short h e f =
     put-then text (10 ∷ []) out mid last at m r (omega (arith, length-append text (10 ∷ []))) e f
 
 -- where a text that fits ends
-pub place-behind : (text out mid : List ℕ) (at m : ℕ) → at + length text ≤ length out → record { next = m; out = mid } ≡ put text out at → m ≡ at + length text
-place-behind text out mid at m h e = ap (λ (o : Outcome). o .next) (e ∙ put-fits text out at h)
+pub place-behind : (text out mid : List ℕ) (at m : ℕ) → at + length text ≤ length out → record { answer = m; out = mid } ≡ put text out at → m ≡ at + length text
+place-behind text out mid at m h e = ap (λ (o : Placed). o .answer) (e ∙ put-fits text out at h)
 
 -- the points that are handed on, as the code takes them: all of a part from the start
 pub same-points : (k l : ℕ) (values : List ℤ) → k ≡ l → take (k * 2 - 0) values ≡ take (l * 2) values

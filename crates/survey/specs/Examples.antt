@@ -11,10 +11,10 @@ use Rattle.chart.specs.Start.{firstStart}
 use Rattle.walker.specs.Walk.{walked}
 use Rattle.simplify.specs.Penalties.{penalty}
 use Rattle.simplify.specs.Simplify.{simplifyOf}
-use Rattle.reduce.specs.Reduce.{numberedOf}
+use Rattle.reduce.specs.Numbers.{numberedOf}
 use Rattle.texts.specs.Text.{lowDigits}
 use Rattle.frames.specs.Replies.{pointsText, numbersText}
-use Rattle.pbm.specs.Calls.{readOf}
+use Rattle.pbm.specs.Read.{readOf}
 use Rattle.survey.specs.Survey.{threeLines, surveyText, whole, stepOf}
 use Rattle.survey.specs.declared.step.Turn.the-variants.{Read}
 
@@ -36,6 +36,6 @@ unfolding surveyText readOf pointsText lowDigits
 empty = refl
 
 -- but more may come
-waits : stepOf [] true (1 ∷ []) ≡ record { turn = Read; output = 1 ∷ [] }
+waits : stepOf [] true (1 ∷ []) ≡ record { answer = Read; out = 1 ∷ [] }
 unfolding stepOf surveyText whole readOf
 waits = refl

@@ -70,7 +70,7 @@ left m output = record { input = m .input; held = m .held; more = m .more; outpu
 
 -- one turn; none once it has ended
 unfoldable pub turned : Machine → Machine
-turned m = if m .ended then m else done (stepIn m .turn) (left m (stepIn m .output))
+turned m = if m .ended then m else done (stepIn m .answer) (left m (stepIn m .out))
 
 -- after so many turns
 unfoldable pub after : ℕ → Machine → Machine

@@ -18,7 +18,7 @@ pub enum Turn {
 // if more may come, and the refusal is answered if not.
 pub fn step(file: &[u8], more: bool, output: &mut [u8]) -> Turn
     requires { ⌜ 98307 ≤ length (now output) ⌝ }
-    ensures { λ r. ⌜ record { turn = r; output = now (output .exit) } ≡ stepOf (now (file .entry)) more (now (output .entry)) ⌝ }
+    ensures { λ r. ⌜ record { answer = r; out = now (output .exit) } ≡ stepOf (now (file .entry)) more (now (output .entry)) ⌝ }
 {
     let mut pixels = [0u8; 32768];
     match pbm::read_pbm(file, &mut pixels) {

@@ -16,12 +16,15 @@ use Rattle.chart.specs.Pixels.{badChart, pixelAt}
 use Rattle.chart.specs.declared.Chart.{Chart}
 use Rattle.walker.specs.Walk.{walked}
 use Rattle.walker.specs.declared.Walked.the-variants as Walked
-use Rattle.spiral.specs.Spiral.{pointsOf, spiralPoints}
-use Rattle.simplify.specs.Penalties.{penalty}
-use Rattle.simplify.specs.Simplify.{staircaseOf, penaltiesOf, simplifyOf}
+use Rattle.spiral.proofs.Whole.{pointsOf, spiralPoints}
+use Rattle.simplify.specs.Penalties.{penalty, penaltiesOf}
+use Rattle.simplify.specs.Simplify.{simplifyOf}
+use Rattle.simplify.specs.Staircase.{staircaseOf}
 use Rattle.split.specs.Distance.{sqSegDist}
-use Rattle.reduce.specs.Distance.{sqDist}
-use Rattle.reduce.specs.Reduce.{radialOf, douglasPeuckerOf, reduceOf, numberedOf}
+use Rattle.reduce.specs.DouglasPeucker.{douglasPeuckerOf}
+use Rattle.reduce.specs.Numbers.{numberedOf}
+use Rattle.reduce.specs.Radial.{sqDist, radialOf}
+use Rattle.reduce.specs.Reduce.{reduceOf}
 
 -- ---- how a line is read
 
@@ -116,9 +119,9 @@ P9 = numberedOf (flat zigzag) (numberRoom 4) ≡ record { answer = Answer.Done 4
 abbrev pub P10 : Type 0
 unfolding flat
 P10 = (douglasPeuckerOf (flat zigzag) (whole 16) (room 4) (markRoom 4)
-    ≡ record { answer = Answer.Done 2; out = flat (point 0 0 ∷ point 8 0 ∷ old ∷ old ∷ []); marks = 1 ∷ 0 ∷ 0 ∷ 1 ∷ [] })
+    ≡ record { answer = Answer.Done 2; out = (flat (point 0 0 ∷ point 8 0 ∷ old ∷ old ∷ []), 1 ∷ 0 ∷ 0 ∷ 1 ∷ []) })
     × (douglasPeuckerOf (flat zigzag) (whole 15) (room 4) (markRoom 4)
-    ≡ record { answer = Answer.Done 4; out = flat zigzag; marks = 1 ∷ 1 ∷ 1 ∷ 1 ∷ [] })
+    ≡ record { answer = Answer.Done 4; out = (flat zigzag, 1 ∷ 1 ∷ 1 ∷ 1 ∷ []) })
 
 -- "P11 `reduce` of the pixel's outline, tolerance 3: (0,0) (0,0). Douglas-Peucker of one point gives it twice."
 abbrev pub P11 : Type 0
@@ -126,12 +129,14 @@ unfolding flat
 P11 = (reduceOf (flat pixelOutline) (whole 3) (room 5) (room 5) (markRoom 5)
     ≡ record {
       answer = Answer.Done 2;
-      out = flat (point 0 0 ∷ point 0 0 ∷ old ∷ old ∷ old ∷ []);
-      scratch = flat (point 0 0 ∷ old ∷ old ∷ old ∷ old ∷ []);
-      marks = 1 ∷ 9 ∷ 9 ∷ 9 ∷ 9 ∷ [];
+      out = (
+        flat (point 0 0 ∷ point 0 0 ∷ old ∷ old ∷ old ∷ []),
+        flat (point 0 0 ∷ old ∷ old ∷ old ∷ old ∷ []),
+        1 ∷ 9 ∷ 9 ∷ 9 ∷ 9 ∷ [],
+      );
     })
     × (douglasPeuckerOf (flat (point 7 8 ∷ [])) (whole 0) (room 2) (markRoom 1)
-    ≡ record { answer = Answer.Done 2; out = flat (point 7 8 ∷ point 7 8 ∷ []); marks = 1 ∷ [] })
+    ≡ record { answer = Answer.Done 2; out = (flat (point 7 8 ∷ point 7 8 ∷ []), 1 ∷ []) })
 
 -- "P12 spiral 2: (0,0) (1,0) (1,1) (0,1)."
 abbrev pub P12 : Type 0

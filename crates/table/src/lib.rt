@@ -1,1 +1,2 @@
-// The worked cases that document 01 marks with a P, as one theorem: specs/Table.antt. There is no code here.
+// For whoever holds the library against document 01: the worked cases that it marks with a P, as one theorem,
+// proofs/Table.antt. There is no code here.

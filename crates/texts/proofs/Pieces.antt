@@ -6,15 +6,15 @@ use native.Mathlib.Omega.{arith}
 use lib.ListN.{length, take, drop, length-append, take-append-drop}
 use lib.Seq.{drop-drop, length-take-le, take-at, drop-append-add}
 use borrow.Author.Tests.{le-leb}
-use Rattle.texts.specs.Put.{Outcome, put}
+use Rattle.texts.specs.Put.{Placed, put}
 
 -- what fits stands there
 module _ (text out : List ℕ) (at : ℕ) (room : at + length text ≤ length out) where
-  pub put-fits : put text out at ≡ record { next = at + length text; out = take at out ++ text ++ drop (at + length text) out }
+  pub put-fits : put text out at ≡ record { answer = at + length text; out = take at out ++ text ++ drop (at + length text) out }
   unfolding put
   put-fits = rw (le-leb (at + length text) (length out) room)
 
-pub put-nothing : (out : List ℕ) (at : ℕ) → at ≤ length out → put [] out at ≡ record { next = at; out = out }
+pub put-nothing : (out : List ℕ) (at : ℕ) → at ≤ length out → put [] out at ≡ record { answer = at; out = out }
 put-nothing out at h =
     let z : at + 0 ≡ at = omega arith in
     let r : at + length {A = ℕ} [] ≤ length out = omega arith in
@@ -44,7 +44,7 @@ module _ (a b out : List ℕ) (at : ℕ) (room : at + length (a ++ b) ≤ length
       length-append (take at out ++ a) (drop (at + length a) out) ∙
       omega (arith, front, first-fits, length-append (take (at + length a) out) (drop (at + length a) out), ap length (take-append-drop (at + length a) out), length-take-le (at + length a) out first-fits)
 
-  pub put-both : put b (put a out at .out) (put a out at .next) ≡ put (a ++ b) out at
+  pub put-both : put b (put a out at .out) (put a out at .answer) ≡ put (a ++ b) out at
   put-both =
       let r : at + length a + length b ≤ length after = omega (arith, length-after, whole, room) in
       let e : at + length (a ++ b) ≡ at + length a + length b = omega (arith, whole) in
@@ -52,11 +52,11 @@ module _ (a b out : List ℕ) (at : ℕ) (room : at + length (a ++ b) ≤ length
       let s : take at out ++ a ++ b ≡ take at out ++ (a ++ b) = append-assoc (take at out) a b in
       rw (put-fits a out at first-fits, put-fits b after (at + length a) r, put-fits (a ++ b) out at room, e, t, rest, s)
 
-  pub second-fits : put a out at .next + length b ≤ length (put a out at .out)
+  pub second-fits : put a out at .answer + length b ≤ length (put a out at .out)
   second-fits = rw (put-fits a out at first-fits) (omega (arith, length-after, whole, room))
 
 -- what two calls answer, one behind the other
 pub put-then : (a b out mid last : List ℕ) (at m r : ℕ) → at + length (a ++ b) ≤ length out →
-    record { next = m; out = mid } ≡ put a out at → record { next = r; out = last } ≡ put b mid m →
-    record { next = r; out = last } ≡ put (a ++ b) out at
-put-then a b out mid last at m r room e f = f ∙ ap (λ (o : Outcome). put b (o .out) (o .next)) e ∙ put-both a b out at room
+    record { answer = m; out = mid } ≡ put a out at → record { answer = r; out = last } ≡ put b mid m →
+    record { answer = r; out = last } ≡ put (a ++ b) out at
+put-then a b out mid last at m r room e f = f ∙ ap (λ (o : Placed). put b (o .out) (o .answer)) e ∙ put-both a b out at room

@@ -16,11 +16,11 @@ use Rattle.texts.specs.Put.{put}
 -- there is room, or there is none
 module _ (text out : List ℕ) (at n : ℕ) (room : Bool) (size : length text ≡ n) (says : room ≡ leb (at + n) (length out)) where
   pub put-room : (last : List ℕ) → room ≡ true → last ≡ take at out ++ text ++ drop (at + n) out →
-      record { next = at + n; out = last } ≡ put text out at
+      record { answer = at + n; out = last } ≡ put text out at
   unfolding put
   put-room last r e = rw (e, size, ← says, r)
 
-  pub put-none : room ≡ false → record { next = at; out = out } ≡ put text out at
+  pub put-none : room ≡ false → record { answer = at; out = out } ≡ put text out at
   unfolding put
   put-none r = rw (size, ← says, r)
 

@@ -13,22 +13,20 @@ use mir.Facts.{toZ-ofZ, fits-natAbs}
 use borrow.Author.Tests.{le-ltb, ltb-true}
 use Rattle.texts.specs.Text.{naturalText, decimalText}
 
+-- no number from zero on lies below it
+not-below : (n : ℕ) → ltZ (pos n) (pos 0) ≡ true → ⊥
+not-below n h = let k : n < 0 = ltb-true n 0 h in omega arith
+
 -- -1 - z, of a number below zero
-minus : (z : ℤ) → ltZ z (pos 0) ≡ true → negsuc 0 -ℤ z ≡ pos (mag z)
-minus (pos n) h = absurd (none n (ltb-true n 0 h))
-  where
-    none : (n : ℕ) → n < 0 → ⊥
-    none n h = omega arith
+pub minus : (z : ℤ) → ltZ z (pos 0) ≡ true → negsuc 0 -ℤ z ≡ pos (mag z)
+minus (pos n) h = absurd (not-below n h)
 minus (negsuc n) h = let e : suc n - 1 ≡ n = omega arith in rw (le-ltb (suc n) 1 (omega arith), e)
 
 abs-of-mag : (z : ℤ) → ltZ z (pos 0) ≡ true → mag z + 1 ≡ natAbs z
-abs-of-mag (pos n) h = absurd (none n (ltb-true n 0 h))
-  where
-    none : (n : ℕ) → n < 0 → ⊥
-    none n h = omega arith
+abs-of-mag (pos n) h = absurd (not-below n h)
 abs-of-mag (negsuc n) h = omega arith
 
-from-zero : (z : ℤ) → ltZ z (pos 0) ≡ false → T (nonNeg z)
+pub from-zero : (z : ℤ) → ltZ z (pos 0) ≡ false → T (nonNeg z)
 from-zero (pos n) h = tt
 from-zero (negsuc n) h = let z : _≡_ {A = ℕ} 0 1 = cc in absurd (omega arith)
 
@@ -74,10 +72,7 @@ module _ (z : ℤ) (fits : SFits w64 z) where
 
 -- the text of a number, by its sign
 text-negative : (z : ℤ) → ltZ z (pos 0) ≡ true → 45 ∷ naturalText (natAbs z) ≡ decimalText z
-text-negative (pos n) h = absurd (none n (ltb-true n 0 h))
-  where
-    none : (n : ℕ) → n < 0 → ⊥
-    none n h = omega arith
+text-negative (pos n) h = absurd (not-below n h)
 text-negative (negsuc n) h = refl
 
 text-natural : (z : ℤ) → T (nonNeg z) → naturalText (natAbs z) ≡ decimalText z

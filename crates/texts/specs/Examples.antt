@@ -4,7 +4,6 @@ use mathlib.Core.Path.{_≡_, refl}
 use lib.IntN.{pos, negsuc}
 use Rattle.texts.specs.Text.{lowDigits, hexText, decimalDigits, decimalText}
 use Rattle.texts.specs.Put.{put}
-use Rattle.texts.specs.Pieces.{putAll}
 
 lower-case : hexText 4 170 ≡ 48 ∷ 48 ∷ 97 ∷ 97 ∷ []
 unfolding lowDigits
@@ -22,15 +21,10 @@ below-zero : decimalText (negsuc 119) ≡ 45 ∷ 49 ∷ 50 ∷ 48 ∷ []
 unfolding decimalDigits
 below-zero = refl
 
-in-the-middle : put (97 ∷ 97 ∷ []) (1 ∷ 2 ∷ 3 ∷ 4 ∷ []) 1 ≡ record { next = 3; out = 1 ∷ 97 ∷ 97 ∷ 4 ∷ [] }
+in-the-middle : put (97 ∷ 97 ∷ []) (1 ∷ 2 ∷ 3 ∷ 4 ∷ []) 1 ≡ record { answer = 3; out = 1 ∷ 97 ∷ 97 ∷ 4 ∷ [] }
 unfolding put
 in-the-middle = refl
 
-no-room : put (97 ∷ 97 ∷ []) (1 ∷ 2 ∷ 3 ∷ 4 ∷ []) 3 ≡ record { next = 3; out = 1 ∷ 2 ∷ 3 ∷ 4 ∷ [] }
+no-room : put (97 ∷ 97 ∷ []) (1 ∷ 2 ∷ 3 ∷ 4 ∷ []) 3 ≡ record { answer = 3; out = 1 ∷ 2 ∷ 3 ∷ 4 ∷ [] }
 unfolding put
 no-room = refl
-
-one-after-the-other : putAll ((97 ∷ 97 ∷ []) ∷ (45 ∷ 45 ∷ []) ∷ (48 ∷ []) ∷ []) (record { next = 0; out = 1 ∷ 2 ∷ 3 ∷ [] }) ≡
-    record { next = 3; out = 97 ∷ 97 ∷ 48 ∷ [] }
-unfolding putAll put
-one-after-the-other = refl

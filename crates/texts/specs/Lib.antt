@@ -1,5 +1,5 @@
--- What the crate promises: `Text` says how a number is written, `Put` where. `Pieces` is for what its callers promise.
-pub mod Text
+-- specs/ is all that you have to believe. Read Put first: where a text stands, and that one that does not fit is not written. Text says how a number
+-- is written, and Examples has some of both.
 pub mod Put
-pub mod Pieces
+pub mod Text
 pub mod Examples

@@ -6,13 +6,13 @@ ghost use lib.IntN.{natAbs};
 ghost use lib.ListN.{length};
 ghost use Rattle.texts.specs.Put.{put};
 ghost use Rattle.texts.specs.Text.{naturalText, decimalText};
-use crate::write::has_room;
-use crate::write::put_digits;
-use crate::write::spell;
+use crate::put::has_room;
+use crate::put::put_digits;
+use crate::put::spell;
 
 // The digits of `n`, with no zero in front, and behind a minus sign where `n` is below zero.
 pub fn put_decimal(n: i64, out: &mut [u8], at: usize) -> usize
-    ensures { λ r. ⌜ record { next = r; out = now (out .exit) } ≡ put (decimalText n) (now (out .entry)) at ⌝ }
+    ensures { λ r. ⌜ record { answer = r; out = now (out .exit) } ≡ put (decimalText n) (now (out .entry)) at ⌝ }
 {
     let m = magnitude(n);
     if n < 0 {
@@ -23,14 +23,14 @@ pub fn put_decimal(n: i64, out: &mut [u8], at: usize) -> usize
 
 // The digits of `n`, with no zero in front.
 pub fn put_natural(n: u64, out: &mut [u8], at: usize) -> usize
-    ensures { λ r. ⌜ record { next = r; out = now (out .exit) } ≡ put (naturalText n) (now (out .entry)) at ⌝ }
+    ensures { λ r. ⌜ record { answer = r; out = now (out .exit) } ≡ put (naturalText n) (now (out .entry)) at ⌝ }
 {
     put_digits(n, 10, places(n), out, at)
 }
 
 // The digits of `n` behind a minus sign.
 fn put_negative(n: u64, out: &mut [u8], at: usize) -> usize
-    ensures { λ r. ⌜ record { next = r; out = now (out .exit) } ≡ put (45 ∷ naturalText n) (now (out .entry)) at ⌝ }
+    ensures { λ r. ⌜ record { answer = r; out = now (out .exit) } ≡ put (45 ∷ naturalText n) (now (out .entry)) at ⌝ }
 {
     let k = places(n);
     if has_room(k + 1, out.len(), at) {

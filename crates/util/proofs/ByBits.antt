@@ -10,7 +10,7 @@ use lib.IntN.{ℤ, natAbs, _-ℤ_, _*ℤ_}
 use Rattle.laws.proofs.Integers.{sfits-abs, abs-mul-le, sub-sfits}
 use Rattle.point.specs.declared.PointI32.{PointI32}
 use Rattle.util.specs.Area.{crossOf, signedArea}
-use Rattle.util.specs.Near.{Near}
+use Rattle.point.specs.inside.Near.{Near}
 
 -- a number within twice the limits is its own by its bits, and so is a coordinate
 pub by-bits : (z : ℤ) → natAbs z ≤ 32766 → toZ w32 (ofZ w32 z) ≡ z

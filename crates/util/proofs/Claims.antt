@@ -1,16 +1,14 @@
 -- What follows of the contracts, for their readers and their callers. Assumes nothing.
-use mathlib.Core.Path.{_≡_, sym, ap, ap₂, _∙_, refl}
-use mathlib.Core.Bool.{false, true, _&&_}
+use mathlib.Core.Path.{_≡_, refl}
+use mathlib.Core.Bool.{false}
 use lib.Ieee.{Float, nan, lt, add, sub, ofInt, ofBits}
-use Rattle.util.specs.Lengths.{middle, lengthOf}
+use Rattle.util.specs.Lengths.{middle, middleOf, lengthOf, normOf, normOfI32}
 use Rattle.util.specs.Answers.{midPointNumber, measureNumber, intersectionNumber, signedNumber}
-use Rattle.util.specs.Measures.{fine, middleOf, normOf, normOfI32}
 use Rattle.util.proofs.lengths.find_mid_point.Reads.{Post as Find-mid-point}
 use Rattle.util.proofs.lengths.middle.Reads.{Post as Middle}
 use Rattle.util.proofs.lengths.norm.Reads.{Post as Norm}
 use Rattle.util.proofs.lengths.norm_i32.Reads.{Post as Norm-i32}
 use Rattle.util.proofs.lengths.length.Reads.{Post as Length}
-use Rattle.util.proofs.lengths.fine.Reads.{Post as Fine}
 use Rattle.util.proofs.MidPoint.number.Reads.{Post as Mid-point-number}
 use Rattle.util.proofs.Measure.number.Reads.{Post as Measure-number}
 use Rattle.point.specs.declared.PointF64.{PointF64}
@@ -23,9 +21,7 @@ use Rattle.util.proofs.ratios.Intersection.coincide.Reads.{Post as Coin
 use Rattle.util.specs.Crossing.{intersectionOf}
 use Rattle.util.proofs.crossing.find_intersection.Reads.{Post as Find-intersection}
 use Rattle.point.specs.declared.PointI32.{PointI32}
-use Rattle.point.specs.declared.refusal.Refusal.the-variants.{BadPoint}
-use Rattle.util.specs.Area.{crossOf, pointFine, signedArea, signedAreaOf}
-use Rattle.util.specs.declared.Signed.the-variants.{Area, Refused}
+use Rattle.util.specs.Area.{crossOf, signedAreaOf}
 use Rattle.util.proofs.Signed.number.Reads.{Post as Signed-number}
 use Rattle.util.proofs.area.cross.Reads.{Post as Crossed}
 use Rattle.util.proofs.area.signed_area.Reads.{Post as Signed-area}
@@ -38,7 +34,27 @@ use Rattle.util.specs.declared.Signed.{Signed}
 use Prim.Native.Nat.{ℕ}
 use lib.IntN.{ℤ}
 
--- ---- each contract leaves no choice: of equal arguments it allows one result. `Post` is the contract itself, as Rattle reads it off the source.
+-- ---- Each contract leaves no choice: of equal arguments it allows one result. `Post` is the contract itself, as Rattle reads it off the source.
+
+pub signed-area-determined : Determined (PointI32 × PointI32 × PointI32) Signed Signed-area (λ _ a. (a .0, a .1 .0, a .1 .1 .0)) (λ _ r s. r)
+signed-area-determined = same (λ x. signedAreaOf (x .0) (x .1) (x .2)) (λ _ a r s p. p)
+
+pub cross-determined : Determined (ℤ × ℤ × ℤ × ℤ) ℤ Crossed (λ _ a. (a .0, a .1 .0, a .1 .1 .0, a .1 .1 .1 .0)) (λ _ r s. r)
+cross-determined = same (λ x. crossOf (x .0) (x .1) (x .2) (x .3)) (λ _ a r s p. p)
+
+pub find-intersection-determined : Determined (PointF64 × PointF64 × PointF64 × PointF64) Intersection Find-intersection
+    (λ _ a. (a .0, a .1 .0, a .1 .1 .0, a .1 .1 .1 .0))
+    (λ _ r s. r)
+find-intersection-determined = same (λ x. intersectionOf (x .0) (x .1) (x .2) (x .3)) (λ _ a r s p. p)
+
+pub outside-determined : Determined Intersection Bool Outside (λ _ a. a .0) (λ _ r s. r)
+outside-determined = same outsideOf (λ _ a r s p. p)
+
+pub inside-determined : Determined Intersection Bool Inside (λ _ a. a .0) (λ _ r s. r)
+inside-determined = same insideOf (λ _ a r s p. p)
+
+pub coincide-determined : Determined Intersection Bool Coincides (λ _ a. a .0) (λ _ r s. r)
+coincide-determined = same coincideOf (λ _ a r s p. p)
 
 pub find-mid-point-determined : Determined (PointF64 × PointF64) MidPoint Find-mid-point (λ _ a. (a .0, a .1 .0)) (λ _ r s. r)
 find-mid-point-determined = same (λ x. middleOf (x .0) (x .1)) (λ _ a r s p. p)
@@ -55,28 +71,17 @@ norm-i32-determined = same normOfI32 (λ _ a r s p. p)
 pub length-determined : Determined (Float × Float) Float Length (λ _ a. (a .0, a .1 .0)) (λ _ r s. r)
 length-determined = same (λ x. lengthOf (x .0) (x .1)) (λ _ a r s p. p)
 
-pub fine-determined : Determined PointF64 Bool Fine (λ _ a. a .0) (λ _ r s. r)
-fine-determined = same fine (λ _ a r s p. p)
+pub signed-number-determined : Determined Signed ℕ Signed-number (λ _ a. a .0) (λ _ r s. r)
+signed-number-determined = same signedNumber (λ _ a r s p. p)
+
+pub intersection-number-determined : Determined Intersection ℕ Intersection-number (λ _ a. a .0) (λ _ r s. r)
+intersection-number-determined = same intersectionNumber (λ _ a r s p. p)
 
 pub mid-point-number-determined : Determined MidPoint ℕ Mid-point-number (λ _ a. a .0) (λ _ r s. r)
 mid-point-number-determined = same midPointNumber (λ _ a r s p. p)
 
 pub measure-number-determined : Determined Measure ℕ Measure-number (λ _ a. a .0) (λ _ r s. r)
 measure-number-determined = same measureNumber (λ _ a r s p. p)
-
--- ---- each contract leaves no choice: of equal arguments it allows one result. `Post` is the contract itself, as Rattle reads it off the source.
-
-pub intersection-number-determined : Determined Intersection ℕ Intersection-number (λ _ a. a .0) (λ _ r s. r)
-intersection-number-determined = same intersectionNumber (λ _ a r s p. p)
-
-pub outside-determined : Determined Intersection Bool Outside (λ _ a. a .0) (λ _ r s. r)
-outside-determined = same outsideOf (λ _ a r s p. p)
-
-pub inside-determined : Determined Intersection Bool Inside (λ _ a. a .0) (λ _ r s. r)
-inside-determined = same insideOf (λ _ a r s p. p)
-
-pub coincide-determined : Determined Intersection Bool Coincides (λ _ a. a .0) (λ _ r s. r)
-coincide-determined = same coincideOf (λ _ a r s p. p)
 
 -- ---- "Asked of Parallel, all three say no"
 
@@ -89,30 +94,3 @@ parallel-says-no = (refl, refl, refl)
 pub nan-first : (p : PointF64) (mub : Float) → outsideOf (Cross p nan mub) ≡ off mub
 unfolding outsideOf off lt add sub ofInt ofBits
 nan-first p mub = refl
-
--- ---- the contract leaves no choice: of equal arguments it allows one result. `Post` is the contract itself, as Rattle reads it off the source.
-
-pub find-intersection-determined : Determined (PointF64 × PointF64 × PointF64 × PointF64) Intersection Find-intersection
-    (λ _ a. (a .0, a .1 .0, a .1 .1 .0, a .1 .1 .1 .0))
-    (λ _ r s. r)
-find-intersection-determined = same (λ x. intersectionOf (x .0) (x .1) (x .2) (x .3)) (λ _ a r s p. p)
-
--- ---- each contract leaves no choice: of equal arguments it allows one result. `Post` is the contract itself, as Rattle reads it off the source.
-
-pub cross-determined : Determined (ℤ × ℤ × ℤ × ℤ) ℤ Crossed (λ _ a. (a .0, a .1 .0, a .1 .1 .0, a .1 .1 .1 .0)) (λ _ r s. r)
-cross-determined = same (λ x. crossOf (x .0) (x .1) (x .2) (x .3)) (λ _ a r s p. p)
-
-pub signed-area-determined : Determined (PointI32 × PointI32 × PointI32) Signed Signed-area (λ _ a. (a .0, a .1 .0, a .1 .1 .0)) (λ _ r s. r)
-signed-area-determined = same (λ x. signedAreaOf (x .0) (x .1) (x .2)) (λ _ a r s p. p)
-
-pub signed-number-determined : Determined Signed ℕ Signed-number (λ _ a. a .0) (λ _ r s. r)
-signed-number-determined = same signedNumber (λ _ a r s p. p)
-
--- ---- the signed area is refused exactly where a point is out of range
-
-module _ (p1 p2 p3 : PointI32) where
-  pub area-given : pointFine p1 ≡ true → pointFine p2 ≡ true → pointFine p3 ≡ true → signedAreaOf p1 p2 p3 ≡ Area (signedArea p1 p2 p3)
-  area-given e f g = rw (e, f, g)
-
-  pub area-refused : (pointFine p1 && pointFine p2 && pointFine p3) ≡ false → signedAreaOf p1 p2 p3 ≡ Refused BadPoint
-  area-refused e = rw e

@@ -6,11 +6,10 @@ use mathlib.Core.Bool.{true}
 use Rattle.point.specs.declared.PointF64.{PointF64}
 use Rattle.point.specs.declared.refusal.Refusal.the-variants.{BadPoint}
 use Rattle.util.specs.declared.MidPoint.the-variants as MidPoint
-use Rattle.util.specs.Measures.{middleOf}
+use Rattle.util.specs.Lengths.{middleOf}
 use Rattle.util.specs.declared.ratios.Intersection.the-variants.{Cross, Parallel, Coincide, Refused}
 use Rattle.util.specs.Ratios.{outsideOf, insideOf, coincideOf}
-use Rattle.util.specs.Lines.{crossing}
-use Rattle.util.specs.Crossing.{intersectionOf}
+use Rattle.util.specs.Crossing.{crossing, intersectionOf}
 use Rattle.util.specs.Area.{crossOf, signedAreaOf}
 use Rattle.util.specs.declared.Signed.the-variants as Signed
 

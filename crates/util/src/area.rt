@@ -2,11 +2,12 @@
 ghost use Prim.Native.Nat.{_≤_};
 ghost use mathlib.Core.Path.{_≡_};
 ghost use lib.IntN.{natAbs, _-ℤ_, _*ℤ_};
-ghost use Rattle.util.specs.Area.{crossOf, signedArea, signedAreaOf, pointFine};
-ghost use Rattle.util.specs.Near.{Near};
+ghost use Rattle.point.specs.inside.Near.{Near};
+ghost use Rattle.util.specs.Area.{crossOf, signedArea, signedAreaOf};
 use crate::Signed;
 use point::PointI32;
 use point::Refusal;
+use point::point_in_range;
 
 // The cross product of two vectors. It fits whatever they are.
 pub fn cross(x1: i32, y1: i32, x2: i32, y2: i32) -> i64
@@ -25,18 +26,19 @@ fn product(a: i32, b: i32) -> i64
 pub fn signed_area(p1: PointI32, p2: PointI32, p3: PointI32) -> Signed
     ensures { λ r. ⌜ r ≡ signedAreaOf p1 p2 p3 ⌝ }
 {
-    if !fine(p1) {
+    if !point_in_range(p1) {
         return Signed::Refused(Refusal::BadPoint);
     }
-    if !fine(p2) {
+    if !point_in_range(p2) {
         return Signed::Refused(Refusal::BadPoint);
     }
-    if !fine(p3) {
+    if !point_in_range(p3) {
         return Signed::Refused(Refusal::BadPoint);
     }
     Signed::Area(area(p1, p2, p3))
 }
 
+// The area where the points are in range: it fits.
 fn area(p1: PointI32, p2: PointI32, p3: PointI32) -> i32
     requires { ⌜ Near p1 × Near p2 × Near p3 ⌝ }
     ensures { λ r. ⌜ r ≡ signedArea p1 p2 p3 ⌝ }
@@ -48,16 +50,10 @@ fn area(p1: PointI32, p2: PointI32, p3: PointI32) -> i32
     cross(x1, y1, x2, y2) as i32
 }
 
+// The difference of two coordinates.
 fn difference(a: i32, b: i32) -> i32
     requires { ⌜ (natAbs a ≤ 16383) × (natAbs b ≤ 16383) ⌝ }
     ensures { λ r. ⌜ (r ≡ a -ℤ b) × (natAbs r ≤ 32766) ⌝ }
 {
     a - b
-}
-
-// Whether a point is in range.
-fn fine(p: PointI32) -> bool
-    ensures { λ r. ⌜ r ≡ pointFine p ⌝ }
-{
-    point::in_range(p.x) && point::in_range(p.y)
 }

@@ -1,17 +1,12 @@
 // Where two lines cross, operation by operation as the Rust computes it.
 ghost use mathlib.Core.Bool.{_&&_};
 ghost use mathlib.Core.Path.{_≡_};
-ghost use lib.Ieee.{binary64, div};
-ghost use Rattle.laws.specs.If.{if_then_else_};
-ghost use Rattle.util.specs.Lengths.{middle};
-ghost use Rattle.util.specs.declared.ratios.Intersection.the-variants.{Parallel, Coincide, Cross};
-ghost use Rattle.util.specs.Lines.{negligible, across, crossing};
-ghost use Rattle.util.specs.Along.{along};
-ghost use Rattle.util.specs.Crossing.{intersectionOf};
-use crate::lengths;
+ghost use Rattle.util.specs.Crossing.{negligible, across, along, judged, crossing, intersectionOf};
+use crate::lengths::middle;
 use crate::ratios::Intersection;
 use point::PointF64;
 use point::Refusal;
+use point::point_in_range_f64;
 
 // What lies between this and its negative counts as 0.
 const EPSILON: f64 = 0.0000001;
@@ -20,16 +15,16 @@ const EPSILON: f64 = 0.0000001;
 pub fn find_intersection(p1: PointF64, p2: PointF64, p3: PointF64, p4: PointF64) -> Intersection
     ensures { λ r. ⌜ r ≡ intersectionOf p1 p2 p3 p4 ⌝ }
 {
-    if !lengths::fine(p1) {
+    if !point_in_range_f64(p1) {
         return Intersection::Refused(Refusal::BadPoint);
     }
-    if !lengths::fine(p2) {
+    if !point_in_range_f64(p2) {
         return Intersection::Refused(Refusal::BadPoint);
     }
-    if !lengths::fine(p3) {
+    if !point_in_range_f64(p3) {
         return Intersection::Refused(Refusal::BadPoint);
     }
-    if !lengths::fine(p4) {
+    if !point_in_range_f64(p4) {
         return Intersection::Refused(Refusal::BadPoint);
     }
     crossing(p1, p2, p3, p4)
@@ -48,14 +43,11 @@ fn crossing(p1: PointF64, p2: PointF64, p3: PointF64, p4: PointF64) -> Intersect
 // Where they cross, if they do: both ratios have the denominator `denom`, the first line's the numerator
 // `numera`, the second's `numerb`.
 fn judged(p1: PointF64, p2: PointF64, denom: f64, numera: f64, numerb: f64) -> Intersection
-    ensures { λ r. ⌜ r ≡ (
-        if negligible denom && negligible numera && negligible numerb then Coincide (middle p1 p2) else
-        if negligible denom then Parallel else
-        Cross (along p1 p2 (div binary64 numera denom)) (div binary64 numera denom) (div binary64 numerb denom)) ⌝ }
+    ensures { λ r. ⌜ r ≡ judged p1 p2 denom numera numerb ⌝ }
 {
     if negligible(denom) {
         if both_negligible(numera, numerb) {
-            return Intersection::Coincide(lengths::middle(p1, p2));
+            return Intersection::Coincide(middle(p1, p2));
         }
         return Intersection::Parallel;
     }

@@ -2,22 +2,23 @@
 ghost use Prim.Native.Nat.{_≤_};
 ghost use mathlib.Core.Path.{_≡_};
 ghost use lib.IntN.{natAbs, _+ℤ_, _*ℤ_};
-ghost use Rattle.util.specs.Lengths.{half, middle, lengthOf, lengthOfI32};
-ghost use Rattle.util.specs.Measures.{fine, middleOf, normOf, normOfI32};
+ghost use Rattle.util.specs.Lengths.{half, middle, middleOf, lengthOf, normOf, lengthOfI32, normOfI32};
 use crate::Measure;
 use crate::MidPoint;
 use point::PointF64;
 use point::PointI32;
 use point::Refusal;
+use point::point_in_range;
+use point::point_in_range_f64;
 
 // The midpoint of two points.
 pub fn find_mid_point(p1: PointF64, p2: PointF64) -> MidPoint
     ensures { λ r. ⌜ r ≡ middleOf p1 p2 ⌝ }
 {
-    if !fine(p1) {
+    if !point_in_range_f64(p1) {
         return MidPoint::Refused(Refusal::BadPoint);
     }
-    if !fine(p2) {
+    if !point_in_range_f64(p2) {
         return MidPoint::Refused(Refusal::BadPoint);
     }
     MidPoint::At(middle(p1, p2))
@@ -43,7 +44,7 @@ fn half(a: f64, b: f64) -> f64
 pub fn norm(p: PointF64) -> Measure
     ensures { λ r. ⌜ r ≡ normOf p ⌝ }
 {
-    if fine(p) {
+    if point_in_range_f64(p) {
         return Measure::Is(length(p.x, p.y));
     }
     Measure::Refused(Refusal::BadPoint)
@@ -53,20 +54,10 @@ pub fn norm(p: PointF64) -> Measure
 pub fn norm_i32(p: PointI32) -> Measure
     ensures { λ r. ⌜ r ≡ normOfI32 p ⌝ }
 {
-    norm_of(p.x, p.y)
-}
-
-// How long a vector of whole numbers is, where it is in range.
-fn norm_of(x: i32, y: i32) -> Measure
-    ensures { λ r. ⌜ r ≡ normOfI32 (record { x = x; y = y }) ⌝ }
-{
-    if !point::in_range(x) {
-        return Measure::Refused(Refusal::BadPoint);
+    if point_in_range(p) {
+        return Measure::Is(length_i32(p.x, p.y));
     }
-    if !point::in_range(y) {
-        return Measure::Refused(Refusal::BadPoint);
-    }
-    Measure::Is(length_i32(x, y))
+    Measure::Refused(Refusal::BadPoint)
 }
 
 // How long any vector is.
@@ -96,11 +87,4 @@ fn sum(a: i32, b: i32) -> i32
     ensures { λ r. ⌜ (r ≡ a +ℤ b) × (natAbs r ≤ 536805378) ⌝ }
 {
     a + b
-}
-
-// Whether a point is in range.
-pub fn fine(p: PointF64) -> bool
-    ensures { λ r. ⌜ r ≡ fine p ⌝ }
-{
-    point::in_range_f64(p.x) && point::in_range_f64(p.y)
 }

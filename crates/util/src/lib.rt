@@ -1,4 +1,4 @@
-// Signed area, midpoint, norm and the crossing of two lines.
+// For whoever measures: the signed area of three points, where two lines cross, midpoints and lengths.
 //
 // The calls refuse a coordinate out of range. `cross`, `middle` and `length`, on which other crates build,
 // take any.
@@ -13,7 +13,6 @@ pub use area::cross;
 pub use area::signed_area;
 pub use crossing::find_intersection;
 pub use lengths::find_mid_point;
-pub use lengths::fine;
 pub use lengths::length;
 pub use lengths::middle;
 pub use lengths::norm;

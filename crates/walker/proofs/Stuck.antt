@@ -11,24 +11,26 @@ use lib.Dec.{ltb}
 use lib.IntN.{ℤ}
 use lib.ListN.{length}
 use borrow.Author.Tests.{ltb-true, ltb-false}
+use Rattle.point.specs.Points.{samePoint}
 use Rattle.point.specs.Limits.{inRange}
+use Rattle.point.specs.Outcomes.{outcome}
 use Rattle.point.specs.Refusals.{refuse_when_or_}
 use Rattle.point.specs.declared.PointI32.{PointI32}
 use Rattle.point.specs.declared.refusal.Refusal.the-variants.{BadSize, BadPoint}
 use Rattle.chart.specs.Pixels.{badChart, pixelAt}
 use Rattle.chart.specs.declared.Chart.{Chart}
-use Rattle.walker.specs.Walk.{Pixels, Way, up, right, down, left, Walker, sameWay, samePoint, taken, atStart, moved, Run, ends, nowhere, run, Walk, closed, no-way, stuck, after, follow, walkFrom, laid, ended, outcome, walked}
+use Rattle.walker.specs.Walk.{Pixels, Way, up, right, down, left, Walker, sameWay, taken, atStart, moved, Run, ends, nowhere, run, Walk, closed, no-way, stuck, after, follow, walkFrom, ended, walked}
 use Rattle.walker.specs.Answers.{walkedNumber}
-use Rattle.walker.specs.Limit.{EndsAt, turns, goes-on, Runs, none-yet, one-more, TooLong, FirstTooLong}
-use Rattle.walker.specs.declared.Walked.the-variants.{Stuck}
+use Rattle.walker.proofs.Limit.{EndsAt, turns, goes-on, Runs, none-yet, one-more, TooLong, FirstTooLong}
+use Rattle.walker.specs.declared.Walked.the-variants.{Stuck, Refused}
 use Rattle.walker.proofs.run.Runs.{same-way, walker-step, ran, placed}
-use Rattle.walker.proofs.Same.{same-point, test-same}
-use Rattle.walker.proofs.Came.{Along}
-use Rattle.walker.proofs.Edges.{room-most, on-lattice}
+use Rattle.walker.proofs.SamePoint.{same-point, test-same}
+use Rattle.walker.proofs.WayBack.{Along}
+use Rattle.walker.proofs.ShortRuns.{room-most, on-lattice}
 use Rattle.walker.proofs.course.Follow.{whole-run, follow-is, on-edge, judged, followed}
 use Rattle.walker.proofs.course.Rest.{enough, judged-stuck, judged-closed, judged-on}
-use Rattle.walker.proofs.course.Outcome.{from-none, from-some}
-use Rattle.walker.proofs.Claims.{Reached, begun, gone, taken-one, reached-along, both-in}
+use Rattle.walker.proofs.course.Returns.{from-none, from-some}
+use Rattle.walker.proofs.Claims.{laidIf, Reached, begun, gone, taken-one, reached-along, both-in}
 
 -- ---- a run as `EndsAt` says it is the run that `run` works out, whatever it counts down from, if that is enough
 
@@ -293,7 +295,8 @@ module _ (c : Chart) (pixels : List ℕ) (cw : Bool) (good : badChart c pixels �
 
 -- ---- what `walk` answers
 
-laid-not : (ps : List PointI32) (out : List ℤ) (full : Bool) → laid ps out full .answer ≡ Stuck → ⊥
+laid-not : (ps : List PointI32) (out : List ℤ) (full : Bool) → laidIf ps out full .answer ≡ Stuck → ⊥
+unfolding outcome
 laid-not ps out true e = omega (arith, ap walkedNumber e)
 laid-not ps out false e = omega (arith, ap walkedNumber e)
 
@@ -311,7 +314,7 @@ module _ (c : Chart) (pixels : List ℕ) (start : PointI32) (cw : Bool) (out : L
   stuck-only = by-tests (badChart c pixels) (not (inRange (start .x) && inRange (start .y))) refl refl
     where
       by-tests : (bad far : Bool) → badChart c pixels ≡ bad → not (inRange (start .x) && inRange (start .y)) ≡ far →
-          outcome (refuse BadSize when bad or refuse BadPoint when far or none) c pixels start cw out .answer ≡ Stuck → PastTheLimit
+          outcome Refused (refuse BadSize when bad or refuse BadPoint when far or none) out (ended (walkFrom (pixelAt c pixels) cw start) out) .answer ≡ Stuck → PastTheLimit
       by-tests true far p q e = absurd (omega (arith, ap walkedNumber e))
       by-tests false true p q e = absurd (omega (arith, ap walkedNumber e))
       by-tests false false p q e =

@@ -10,7 +10,7 @@ use Rattle.point.specs.declared.PointI32.{PointI32}
 use Rattle.chart.specs.Pixels.{pixelAt, badChart}
 use Rattle.chart.specs.declared.Chart.{Chart}
 use Rattle.walker.specs.Walk.{Pixels, Way, up, right, down, left, Walker, taken, moved, walked}
-use Rattle.walker.specs.Limit.{EndsAt, turns, goes-on, Runs, none-yet, one-more, TooLong}
+use Rattle.walker.proofs.Limit.{EndsAt, turns, goes-on, Runs, none-yet, one-more, TooLong}
 use Rattle.walker.specs.declared.Walked.the-variants.{Stuck}
 use Rattle.walker.proofs.Stuck.{apart, runs-one, stuck-where}
 

@@ -1,5 +1,5 @@
 pub mod Writing
 pub mod Counting
 pub mod Follow
-pub mod Outcome
+pub mod Returns
 pub mod Rest

@@ -1,14 +1,16 @@
 -- Document 01, "Walk": the outline of a chart from a start.
 use Prim.Native.Nat.{ℕ, zero, suc, _*_}
 use mathlib.Core.Bool.{Bool, true, false, not, _&&_, Bool·beq}
-use mathlib.Core.List.{List, [], _∷_, _++_}
+use mathlib.Core.List.{List, [], _∷_}
 use mathlib.Core.Option.{Option, some, none}
 use lib.Dec.{ltb, eqb}
 use lib.IntN.{ℤ, pos, _+ℤ_, _-ℤ_}
-use lib.Signed.{leZ}
-use lib.ListN.{length, drop}
+use lib.ListN.{length}
+use Rattle.laws.specs.Lists.{over}
+use Rattle.laws.specs.Outcome.{Outcome}
 use Rattle.point.specs.Limits.{inRange}
-use Rattle.point.specs.Points.{flat}
+use Rattle.point.specs.Outcomes.{outcome}
+use Rattle.point.specs.Points.{flat, samePoint}
 use Rattle.point.specs.Refusals.{refuse_when_or_}
 use Rattle.point.specs.declared.PointI32.{PointI32}
 use Rattle.point.specs.declared.refusal.Refusal.{Refusal}
@@ -70,9 +72,6 @@ moved w d = record { curr = ahead (w .curr) d; prev = w .curr; prev-prev = w .pr
 abbrev pub order : Bool → List Way
 order true = up ∷ right ∷ down ∷ left ∷ []
 order false = left ∷ down ∷ right ∷ up ∷ []
-
-abbrev pub samePoint : PointI32 → PointI32 → Bool
-samePoint p q = leZ (p .x) (q .x) && leZ (q .x) (p .x) && (leZ (p .y) (q .y) && leZ (q .y) (p .y))
 
 -- "and takes the first exit not leading to `prev` or `prev_prev`"
 abbrev pub free : Pixels → Walker → Way → Bool
@@ -142,33 +141,27 @@ walkFrom set clockwise start = elim (taken set clockwise (atStart start)) [
   | some d ↦ after start (follow set clockwise start 1000002 (atStart start) d)
 ]
 
--- ---- what `walk` answers
+-- ---- what `walk` answers, and what the buffer lent to it then holds
 
-pub record Outcome : Type 0 where
-  pub answer : Walked
-  pub out : List ℤ
+abbrev pub Outlined : Type 0
+Outlined = Outcome Walked (List ℤ)
 
--- NoRoom is "output .. too small": "A walk needs as many places as its outline has points."
-abbrev pub laid : List PointI32 → List ℤ → Bool → Outcome
-laid ps out true = record { answer = Refused NoRoom; out = out }
-laid ps out false = record { answer = Done (length ps); out = flat ps ++ drop (length ps * 2) out }
+-- an outline at the start of a buffer, and counted. NoRoom is "output .. too small": "A walk needs as many places as its outline has points."
+abbrev pub laid : List PointI32 → List ℤ → Outlined
+laid ps out = outcome Refused (refuse NoRoom when ltb (length out) (length ps * 2) or none) out (record { answer = Done (length ps); out = over (flat ps) out })
 
-abbrev pub ended : Walk → List ℤ → Outcome
-ended (closed ps) out = laid ps out (ltb (length out) (length ps * 2))
+-- what comes of a walk: one that finds no way, or is stuck, leaves the buffer as it was, as a refusal does
+abbrev pub ended : Walk → List ℤ → Outlined
+ended (closed ps) out = laid ps out
 ended no-way out = record { answer = NoWay; out = out }
 ended stuck out = record { answer = Stuck; out = out }
 
-abbrev pub refusal : Chart → List ℕ → PointI32 → Option Refusal
-refusal c pixels start =
+abbrev pub walkRefusal : Chart → List ℕ → PointI32 → Option Refusal
+walkRefusal c pixels start =
     refuse BadSize when badChart c pixels or
     refuse BadPoint when not (inRange (start .x) && inRange (start .y)) or
     none
 
-unfoldable pub outcome : Option Refusal → Chart → List ℕ → PointI32 → Bool → List ℤ → Outcome
-unfolding walkFrom
-outcome (some r) c pixels start clockwise out = record { answer = Refused r; out = out }
-outcome none c pixels start clockwise out = ended (walkFrom (pixelAt c pixels) clockwise start) out
-
-unfoldable pub walked : Chart → List ℕ → PointI32 → Bool → List ℤ → Outcome
-unfolding outcome
-walked c pixels start clockwise out = outcome (refusal c pixels start) c pixels start clockwise out
+unfoldable pub walked : Chart → List ℕ → PointI32 → Bool → List ℤ → Outlined
+unfolding walkFrom outcome over flat
+walked c pixels start clockwise out = outcome Refused (walkRefusal c pixels start) out (ended (walkFrom (pixelAt c pixels) clockwise start) out)

@@ -7,10 +7,10 @@ ghost use Rattle.point.specs.Limits.{inRange};
 ghost use Rattle.chart.specs.Pixels.{badChart};
 ghost use Rattle.walker.specs.Walk.{walked};
 ghost use Rattle.walker.specs.inside.Course.{OnEdge, rest, placeOf, counted, HasRoom, written};
-use crate::Place;
 use crate::Walked;
 use crate::exits::NONE;
 use crate::exits::way_in;
+use crate::run::Place;
 use crate::run::is_on;
 use crate::run::run;
 use chart::Chart;
@@ -21,7 +21,7 @@ use point::Refusal;
 const LIMIT: u32 = 1000000;
 
 // Puts the outline of what is set at the start of `out`: the start, and the end of each run until
-// one ends on the start. It is followed to its end before anything is written.
+// one ends on the start. Any other answer leaves `out` as it was.
 pub fn walk(
     chart: Chart,
     pixels: &[u8],

@@ -29,7 +29,7 @@ fn first_exit(around: u8, clockwise: bool) -> u8
 
 // The exits taken from the start, four bits for each of the sixteen numbers that `chart::around` gives.
 //
-// Each word was made from `firstExit` of walks/specs/Course: its hexadecimal digit m, the last of them
+// Each word was made from `firstExit` of specs/inside/Course: its hexadecimal digit m, the last of them
 // digit 0, is the exit for number m, or 4 where there is none. The proof computes all sixteen. By hand:
 // in number 1 the pixel below on the right alone is set, so that right and down are exits. Clockwise
 // tries 0, 1, 2, 3 and takes right: digit 1 of the first word is 1. Otherwise 3, 2, 1, 0 are tried
@@ -47,7 +47,7 @@ fn first_exits(clockwise: bool) -> u64
 // first in order that does not lead back. The move was along an exit, and exits are even in number,
 // so that there is always another; where there could be none the bits are 0.
 //
-// Each word was made from `onward` of walks/specs/Course: its bits 2m and 2m + 1 are the exit for number
+// Each word was made from `onward` of specs/inside/Course: its bits 2m and 2m + 1 are the exit for number
 // m, so that a hexadecimal digit has two exits, the one of the lower number in its lower half. The
 // proof computes all sixteen. By hand: in number 3 the two pixels below are set, so that right and left
 // are exits. After a move up neither leads back, and clockwise tries right first: 1. Numbers 2 and

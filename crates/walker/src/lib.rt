@@ -1,4 +1,7 @@
-// Whole walks along the outline of a chart.
+// Walks along the outline of what is set on a chart, for whoever draws it.
+//
+// A walk goes from point to point of the lattice between the pixels, and hands out its start and the end of
+// each of its runs. It is followed to its end before anything is written.
 mod course;
 mod exits;
 mod run;
@@ -42,12 +45,4 @@ impl Walked {
             Walked::Refused(_) => 0,
         }
     }
-}
-
-// Where a walk stands, the exit that it takes from there, and how many steps it has made.
-pub struct Place {
-    pub x: i32,
-    pub y: i32,
-    pub way: u8,
-    pub steps: u32,
 }

@@ -3,16 +3,23 @@ ghost use Prim.Native.Nat.{_≤_};
 ghost use mathlib.Core.Bool.{false};
 ghost use mathlib.Core.Option.{some};
 ghost use mathlib.Core.Path.{_≡_};
+ghost use Rattle.point.specs.Points.{samePoint};
 ghost use Rattle.chart.specs.Pixels.{badChart};
-ghost use Rattle.walker.specs.Walk.{samePoint};
 ghost use Rattle.walker.specs.inside.Course.{OnEdge, ranOn, point};
-use crate::Place;
 use crate::exits::across;
 use crate::exits::downward;
 use crate::exits::exit_in;
 use crate::exits::exits_after;
 use chart::Chart;
 use point::PointI32;
+
+// Where a walk stands, the exit that it takes from there, and how many steps it has made.
+pub(crate) struct Place {
+    pub x: i32,
+    pub y: i32,
+    pub way: u8,
+    pub steps: u32,
+}
 
 // The run from a place: it goes on until the exit taken would change direction.
 pub(crate) fn run(chart: Chart, pixels: &[u8], from: Place, clockwise: bool) -> Place

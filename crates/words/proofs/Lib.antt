@@ -1,5 +1,4 @@
+-- Claims says that the contracts leave no choice, and that what is read fits its buffer. Splits, on lists cut at a byte, is for callers too.
 pub mod Claims
-pub mod Parts
+pub mod Splits
 pub mod Numerals
-pub mod Pairs
-pub mod Into

@@ -6,8 +6,7 @@ use native.Mathlib.Numerals.{add-one}
 use lib.ListN.{length, drop, getD}
 use lib.Seq.{drop-cons}
 use borrow.Author.Tests.{lt-ltb}
-use Rattle.words.specs.Digit.{digitOf}
-use Rattle.words.specs.Numeral.{allDigits, value}
+use Rattle.words.specs.Digits.{digitOf, allDigits, value}
 
 -- a digit is passed
 module _ (word : List ℕ) (base i : ℕ) where

@@ -6,11 +6,11 @@ use lib.Dec.{ltb, eqb}
 use lib.ListN.{length, getD, drop}
 use lib.IntN.{pos, negℤ}
 use Rattle.laws.specs.If.{if_then_else_}
-use Rattle.words.specs.Numeral.{allDigits, value}
-use Rattle.words.specs.declared.integer.Integer.{Integer}
-use Rattle.words.specs.declared.integer.Integer.the-variants as Integer
-use Rattle.words.specs.declared.natural.Natural.{Natural}
-use Rattle.words.specs.declared.natural.Natural.the-variants as Natural
+use Rattle.words.specs.Digits.{allDigits, value}
+use Rattle.words.specs.declared.decimal.Integer.{Integer}
+use Rattle.words.specs.declared.decimal.Integer.the-variants as Integer
+use Rattle.words.specs.declared.decimal.Natural.{Natural}
+use Rattle.words.specs.declared.decimal.Natural.the-variants as Natural
 
 -- decimal digits that say what 64 bits hold, at least one
 abbrev pub naturalOf : List ℕ → Natural

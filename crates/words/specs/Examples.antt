@@ -2,29 +2,28 @@
 use mathlib.Core.List.{[], _∷_}
 use mathlib.Core.Path.{_≡_, refl}
 use lib.IntN.{pos, negsuc}
-use Prim.Native.Nat.{ℕ}
 use mathlib.Core.Option.{some, none}
-use Rattle.words.specs.Line.{upTo, firstFrom, split, wordsOf, wordOf}
-use Rattle.words.specs.Digit.{digitOf}
-use Rattle.words.specs.Numeral.{allDigits, value, hexOf, patternOf}
+use Rattle.laws.specs.Lists.{over}
+use Rattle.words.specs.Line.{upTo, firstFrom, cutAt, wordsOf, wordOf}
+use Rattle.words.specs.Digits.{digitOf, allDigits, value}
+use Rattle.words.specs.Hexadecimal.{hexOf, patternOf}
 use Rattle.words.specs.declared.hexadecimal.Hex.the-variants as Hex
 use Rattle.words.specs.Decimal.{integerOf, naturalOf}
-use Rattle.words.specs.declared.integer.Integer.the-variants as Integer
-use Rattle.words.specs.declared.natural.Natural.the-variants as Natural
-use Rattle.words.specs.Into.{readInto}
-use Rattle.words.specs.Pairs.{pairOf, bytesOf}
+use Rattle.words.specs.declared.decimal.Integer.the-variants as Integer
+use Rattle.words.specs.declared.decimal.Natural.the-variants as Natural
+use Rattle.words.specs.Bytes.{pairOf, bytesOf, readInto}
 use Rattle.words.specs.declared.bytes.Read.the-variants.{Is, Not}
 
 no-bytes-are-a-word : wordsOf [] ≡ [] ∷ []
-unfolding split
+unfolding cutAt
 no-bytes-are-a-word = refl
 
 two-spaces : wordsOf (97 ∷ 32 ∷ 32 ∷ 98 ∷ []) ≡ (97 ∷ []) ∷ [] ∷ (98 ∷ []) ∷ []
-unfolding split
+unfolding cutAt
 two-spaces = refl
 
 no-third-word : wordOf (97 ∷ 32 ∷ 98 ∷ []) 2 ≡ []
-unfolding split
+unfolding cutAt
 no-third-word = refl
 
 the-second-b : firstFrom 98 1 (98 ∷ 97 ∷ 98 ∷ []) ≡ 2
@@ -74,8 +73,9 @@ an-odd-digit : bytesOf (49 ∷ 97 ∷ 49 ∷ []) ≡ none
 unfolding bytesOf pairOf digitOf
 an-odd-digit = refl
 
-the-rest-is-kept : readInto {A = ℕ} (some (26 ∷ [])) (1 ∷ 2 ∷ []) ≡ record { answer = Is 1; to = 26 ∷ 2 ∷ [] }
+the-rest-is-kept : readInto (some (26 ∷ [])) (1 ∷ 2 ∷ []) ≡ record { answer = Is 1; out = 26 ∷ 2 ∷ [] }
+unfolding over
 the-rest-is-kept = refl
 
-no-room : readInto {A = ℕ} (some (26 ∷ 27 ∷ [])) (1 ∷ []) ≡ record { answer = Not; to = 1 ∷ [] }
+no-room : readInto (some (26 ∷ 27 ∷ [])) (1 ∷ []) ≡ record { answer = Not; out = 1 ∷ [] }
 no-room = refl

@@ -1,7 +1,9 @@
+-- specs/ is all that you have to believe. Read Line first: what the words of a line are. Digits says what digits say; Hexadecimal, Decimal and Bytes
+-- what a word reads as, and Examples has some of each. What stands in inside/ nobody need believe.
 pub mod Line
-pub mod Digit
-pub mod Numeral
+pub mod Digits
+pub mod Hexadecimal
 pub mod Decimal
-pub mod Pairs
-pub mod Into
+pub mod Bytes
 pub mod Examples
+pub mod inside

@@ -20,13 +20,13 @@ onto x [] = (x ∷ []) ∷ []
 onto x (p ∷ ps) = (x ∷ p) ∷ ps
 
 -- the parts between the `b`s, without them: one more than there are `b`s, and any of them may be empty
-unfoldable pub split : ℕ → List ℕ → List (List ℕ)
-split b [] = [] ∷ []
-split b (x ∷ xs) = if eqb x b then [] ∷ split b xs else onto x (split b xs)
+unfoldable pub cutAt : ℕ → List ℕ → List (List ℕ)
+cutAt b [] = [] ∷ []
+cutAt b (x ∷ xs) = if eqb x b then [] ∷ cutAt b xs else onto x (cutAt b xs)
 
 -- the words of a line are what its spaces part
 abbrev pub wordsOf : List ℕ → List (List ℕ)
-wordsOf line = split 32 line
+wordsOf line = cutAt 32 line
 
 -- the word at place `k`, from 0; empty where there is none
 abbrev pub wordOf : List ℕ → ℕ → List ℕ

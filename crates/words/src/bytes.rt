@@ -4,11 +4,11 @@
 // Nothing fails: where the word says no bytes, or there is no room for all, the answer is `Not`, and
 // nothing is written.
 ghost use mathlib.Core.Path.{_≡_};
-ghost use Rattle.words.specs.Into.{isDash, countOf, over, Room, readInto};
 ghost use Prim.Native.Nat.{_+_, _≤_};
 ghost use lib.ListN.{length, getD};
-ghost use Rattle.words.specs.Pairs.{pairOf, bytesOf, pairsOf};
-use crate::glyphs::digit;
+ghost use Rattle.words.specs.Bytes.{isDash, pairOf, bytesOf, pairsOf, readInto};
+ghost use Rattle.words.specs.inside.Bytes.{countOf, laid, Room};
+use crate::digits::digit;
 
 // How many values were read; or that one of them is no value, or that they do not fit.
 pub enum Read {
@@ -29,7 +29,7 @@ pub fn is_dash(word: &[u8]) -> bool
 // Reads the bytes of a word to the start of `to`, and answers how many there are. Where the count of
 // digits is odd, or something else stands between them, or there is no room for all, it writes nothing.
 pub fn read_bytes(word: &[u8], to: &mut [u8]) -> Read
-    ensures { λ r. ⌜ record { answer = r; to = now (to .exit) } ≡ readInto (bytesOf (now (word .entry))) (now (to .entry)) ⌝ }
+    ensures { λ r. ⌜ record { answer = r; out = now (to .exit) } ≡ readInto (bytesOf (now (word .entry))) (now (to .entry)) ⌝ }
 {
     let Read::Is(n) = count_bytes(word) else {
         return Read::Not;
@@ -44,7 +44,7 @@ pub fn read_bytes(word: &[u8], to: &mut [u8]) -> Read
 // Reads the bytes of a word to the start of `to`, as `read_bytes` does; here the word of no bytes is `-`,
 // and an empty word is none.
 pub fn read_pairs(word: &[u8], to: &mut [u8]) -> Read
-    ensures { λ r. ⌜ record { answer = r; to = now (to .exit) } ≡ readInto (pairsOf (now (word .entry))) (now (to .entry)) ⌝ }
+    ensures { λ r. ⌜ record { answer = r; out = now (to .exit) } ≡ readInto (pairsOf (now (word .entry))) (now (to .entry)) ⌝ }
 {
     if is_dash(word) {
         return Read::Is(0);
@@ -74,9 +74,10 @@ fn count_bytes(word: &[u8]) -> Read
     Read::Is(n)
 }
 
+// Stores the bytes that a word says.
 fn write_bytes(word: &[u8], to: &mut [u8])
     requires { ⌜ Room (bytesOf (now word)) 0 (length (now to)) ⌝ }
-    ensures { λ _. ⌜ now (to .exit) ≡ over (bytesOf (now (word .entry))) (now (to .entry)) ⌝ }
+    ensures { λ _. ⌜ now (to .exit) ≡ laid (bytesOf (now (word .entry))) (now (to .entry)) ⌝ }
 {
     let mut n = 0;
     let mut at = 0;

@@ -1,8 +1,9 @@
 // A number of hexadecimal digits, read from a word.
 ghost use mathlib.Core.Path.{_≡_};
-ghost use Rattle.words.specs.Numeral.{hexOf, patternOf};
-use crate::glyphs::digit;
+ghost use Rattle.words.specs.Hexadecimal.{hexOf, patternOf};
+use crate::digits::digit;
 
+// The number, or that the word says none.
 pub enum Hex {
     Is(u64),
     Not,

@@ -1,4 +1,4 @@
--- `bits::from_bits` meets its contract: without the sign, a pattern above that of +infinity is a NaN's. Assumes nothing.
+-- `from_bits` meets its contract: without the sign, a pattern above that of +infinity is a NaN's. Assumes nothing.
 use Prim.Native.Nat.{ℕ, _%_, _≤_, _<_, _^_}
 use mathlib.Core.Bool.{not}
 use mathlib.Core.Path.{_≡_, sym}

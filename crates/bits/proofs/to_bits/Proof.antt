@@ -1,4 +1,4 @@
--- `bits::to_bits` meets its contract: only a NaN differs from itself. Assumes nothing.
+-- `to_bits` meets its contract: only a NaN differs from itself. Assumes nothing.
 use mathlib.Core.Bool.{true, false, not, true≢false}
 use mathlib.Core.Path.{_≡_, sym, _∙_}
 use lib.Dec.{T}

@@ -12,7 +12,8 @@ use lib.ListN.{getD}
 use borrow.Author.Tests.{le-ltb, ltb-true, ltb-false}
 use Rattle.chart.specs.declared.Chart.{Chart}
 use Rattle.chart.specs.Pixels.{rowBytes, cell}
-use Rattle.chart.specs.Start.{firstInRow, columnOf, FirstBit}
+use Rattle.chart.specs.Start.{firstInRow}
+use Rattle.chart.specs.inside.Rows.{columnOf, FirstBit}
 use Rattle.chart.proofs.Rows.{cell-byte}
 
 module _ (c : Chart) (pixels : List ℕ) (y : ℕ) where

@@ -1,5 +1,5 @@
 -- Two files with the same chart and the same pixels in it are read alike. Assumes nothing.
-use Prim.Native.Nat.{ℕ, _*_, _<_}
+use Prim.Native.Nat.{ℕ, _<_}
 use mathlib.Core.Bool.{Bool, true, false}
 use mathlib.Core.List.{List}
 use mathlib.Core.Option.{Option, some, none}
@@ -7,15 +7,14 @@ use mathlib.Core.Path.{_≡_, refl}
 use lib.Dec.{ltb}
 use lib.ListN.{length}
 use Rattle.point.specs.declared.refusal.Refusal.the-variants.{BadPicture}
-use Rattle.chart.specs.Pixels.{rowBytes}
+use Rattle.chart.specs.Pixels.{allBytes, badSides}
 use Rattle.chart.specs.declared.Chart.{Chart}
 use Rattle.pbm.specs.Header.{Header, headerIn}
 use Rattle.pbm.specs.Raster.{Image, imageIn}
-use Rattle.pbm.specs.Calls.{Outcome, refused, laid, readBehind, readOf}
+use Rattle.pbm.specs.Read.{Reading, refused, laid, readBehind, readOf}
 use Rattle.pbm.specs.declared.Picture.{Picture}
 use Rattle.pbm.specs.declared.Picture.the-variants.{Read, Refused}
 use Rattle.pbm.proofs.Bytes.{chartBytes-same}
-use Rattle.pbm.proofs.theorems.Told.{badSides}
 
 -- an answer but for how many bytes were taken
 abbrev pub uncounted : Picture → Picture
@@ -23,9 +22,9 @@ uncounted (Read c n) = Read c 0
 uncounted (Refused r) = Refused r
 
 -- the same chart or the same refusal, and the same in the buffer
-pub record ReadAlike (o o′ : Outcome) : Type 0 where
+pub record ReadAlike (o o′ : Reading) : Type 0 where
   pub answers : uncounted (o .answer) ≡ uncounted (o′ .answer)
-  pub buffers : o .pixels ≡ o′ .pixels
+  pub buffers : o .out ≡ o′ .out
 
 -- the same pixels within a chart, or none at all
 pub data ImagesAlike (c : Chart) : Option Image → Option Image → Type 0 where
@@ -37,9 +36,9 @@ module _ (file file′ buffer : List ℕ) where
   laid-alike : (c : Chart) (image image′ : Image) → ((x y : ℕ) → x < c .width → y < c .height → image .set x y ≡ image′ .set x y) →
       ReadAlike (laid file c image buffer) (laid file′ c image′ buffer)
   unfolding laid
-  laid-alike c image image′ same = by-test (ltb (length buffer) (rowBytes (c .width) * c .height)) refl
+  laid-alike c image image′ same = by-test (ltb (length buffer) (allBytes c)) refl
     where
-      by-test : (t : Bool) → ltb (length buffer) (rowBytes (c .width) * c .height) ≡ t → ReadAlike (laid file c image buffer) (laid file′ c image′ buffer)
+      by-test : (t : Bool) → ltb (length buffer) (allBytes c) ≡ t → ReadAlike (laid file c image buffer) (laid file′ c image′ buffer)
       by-test true t = rw (t, laid) (record { answers = refl; buffers = refl })
       by-test false t = rw (t, laid) (record { answers = refl; buffers = rw (chartBytes-same c (image .set) (image′ .set) same) })
 

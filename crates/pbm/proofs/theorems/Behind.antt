@@ -1,6 +1,6 @@
 -- What follows an image changes nothing of the answer: of a file that is read, only the bytes that were taken count. Assumes nothing.
-use Prim.Native.Nat.{ℕ, _-_, _*_, _≤_}
-use mathlib.Core.Bool.{Bool, true, false, not}
+use Prim.Native.Nat.{ℕ, _-_, _≤_}
+use mathlib.Core.Bool.{Bool, true, false}
 use mathlib.Core.List.{List, _++_, append-assoc}
 use mathlib.Core.Option.{Option, some, none, Option·none-ne-some}
 use mathlib.Core.Path.{_≡_, refl, sym, ap, _∙_}
@@ -8,19 +8,18 @@ use native.Mathlib.Omega.{arith}
 use lib.Dec.{ltb}
 use lib.ListN.{length, take, drop, length-append, take-append-drop}
 use lib.Seq.{take-at}
-use Rattle.laws.proofs.Joined.{both-false}
-use Rattle.chart.specs.Pixels.{rowBytes, side}
+use Rattle.chart.specs.Pixels.{allBytes}
 use Rattle.chart.specs.declared.Chart.{Chart}
-use Rattle.chart.proofs.Sizes.{side-within}
+use Rattle.chart.proofs.Sizes.{width-within, height-within}
 use Rattle.pbm.specs.Header.{headerIn}
 use Rattle.pbm.specs.Raster.{Image, imageIn}
 use Rattle.pbm.specs.Bytes.{chartBytes}
-use Rattle.pbm.specs.Calls.{laid, readOf}
+use Rattle.pbm.specs.Read.{laid, readOf}
 use Rattle.pbm.specs.declared.Picture.the-variants as Picture
 use Rattle.pbm.proofs.theorems.Front.{Front, anything}
 use Rattle.pbm.proofs.theorems.HeaderFront.{parted, headed, header-front}
 use Rattle.pbm.proofs.theorems.ImageFront.{Seen, seen, showing, image-front, image-is-parted}
-use Rattle.pbm.proofs.theorems.Told.{Found, read-is, found}
+use Rattle.pbm.proofs.theorems.Told.{ImageFound, read-is, image-found}
 
 -- ---- an image that is seen, taken out
 
@@ -40,15 +39,15 @@ sight c (some image) s e = record { image = image; is = refl; bytes = cc; rest =
 laid-alike : (file file′ : List ℕ) (c : Chart) (image image′ : Image) (pixels : List ℕ) → chartBytes c (image .set) ≡ chartBytes c (image′ .set)
     → length file - length (image .rest) ≡ length file′ - length (image′ .rest) → laid file c image pixels ≡ laid file′ c image′ pixels
 unfolding laid
-laid-alike file file′ c image image′ pixels p q = go (ltb (length pixels) (rowBytes (c .width) * c .height)) refl
+laid-alike file file′ c image image′ pixels p q = go (ltb (length pixels) (allBytes c)) refl
   where
-    go : (t : Bool) → ltb (length pixels) (rowBytes (c .width) * c .height) ≡ t → laid file c image pixels ≡ laid file′ c image′ pixels
+    go : (t : Bool) → ltb (length pixels) (allBytes c) ≡ t → laid file c image pixels ≡ laid file′ c image′ pixels
     go true e = rw (e, laid)
     go false e = rw (e, laid, p, q)
 
 -- ---- what an image takes of its file: the header, what parts, and the raster
 
-module _ (file : List ℕ) (n : ℕ) (f : Found file n) where
+module _ (file : List ℕ) (n : ℕ) (f : ImageFound file n) where
   -- its chart
   abbrev c : Chart
   c = f .header .chart
@@ -60,10 +59,8 @@ module _ (file : List ℕ) (n : ℕ) (f : Found file n) where
   -- and behind it what the image does
   image-part : Front (λ l. seen c (imageIn (headed (f .header) l))) (showing c (f .image)) anything (f .header .rest) (f .image .rest)
   image-part =
-      let good = both-false (not (side (c .width))) (not (side (c .height))) (f .sized) in
       image-front (f .header) (f .image) (f .ended)
-      (side-within (c .width) (side (c .width)) refl (good .0) .0)
-      (side-within (c .height) (side (c .height)) refl (good .1) .0)
+      (width-within c (f .sized) .0) (height-within c (f .sized) .0)
 
   -- both
   taken : List ℕ
@@ -117,13 +114,13 @@ module _ (file : List ℕ) (n : ℕ) (f : Found file n) where
 
 -- no more bytes are counted than there are
 pub taken-at-most : (file pixels : List ℕ) (c : Chart) (n : ℕ) → readOf file pixels .answer ≡ Picture.Read c n → n ≤ length file
-taken-at-most file pixels c n read = omega (arith, found file pixels c n read .counted)
+taken-at-most file pixels c n read = omega (arith, image-found file pixels c n read .counted)
 
 -- those that are counted say all, whatever stands behind them
 pub nothing-behind-matters : (file more pixels : List ℕ) (c : Chart) (n : ℕ) → readOf file pixels .answer ≡ Picture.Read c n
     → readOf (take n file ++ more) pixels ≡ readOf file pixels
 nothing-behind-matters file more pixels c n read =
-    let f = found file pixels c n read in
+    let f = image-found file pixels c n read in
     rw (taken-are-the-first file n f) (same-outcome file n f more pixels)
 
 -- so more may follow the file

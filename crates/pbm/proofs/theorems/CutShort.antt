@@ -7,7 +7,7 @@ use lib.ListN.{length, take, drop, take-append-drop}
 use lib.Seq.{length-take-le}
 use Rattle.point.specs.declared.refusal.Refusal.{Refusal}
 use Rattle.chart.specs.declared.Chart.{Chart}
-use Rattle.pbm.specs.Calls.{Outcome, refused, readOf}
+use Rattle.pbm.specs.Read.{Reading, refused, readOf}
 use Rattle.pbm.specs.declared.Picture.the-variants as Picture
 use Rattle.pbm.proofs.theorems.Told.{Told, told-refused, told-read, told}
 use Rattle.pbm.proofs.theorems.Behind.{taken-at-most, nothing-more-matters}
@@ -34,4 +34,4 @@ cut-short-is-refused file pixels c n read k short = go (told (take k file) pixel
   where
     go : Told (take k file) pixels → Refuses (take k file) pixels
     go (told-refused r e) = record { refusal = r; leaves = e }
-    go (told-read m f room e) = absurd (cut-short file pixels c n read k short (f .header .chart) m (ap (λ (o : Outcome). o .answer) e))
+    go (told-read m f room e) = absurd (cut-short file pixels c n read k short (f .header .chart) m (ap (λ (o : Reading). o .answer) e))

@@ -1,6 +1,6 @@
 -- What the raster takes of a file, raw or plain, with what parts it from the header: whatever follows it, the chart's bytes are the same. Assumes
 -- nothing.
-use Prim.Native.Nat.{ℕ, zero, suc, _+_, _*_, _/_, _≤_, _<_}
+use Prim.Native.Nat.{ℕ, zero, suc, _+_, _*_, _≤_, _<_}
 use mathlib.Core.Bool.{Bool, true, false, _||_}
 use mathlib.Core.List.{List, [], _∷_, _++_}
 use mathlib.Core.Option.{Option, some, none, Option·none-ne-some, Option·some-injective}
@@ -9,7 +9,7 @@ use native.Mathlib.Nat.{mul-pos}
 use native.Mathlib.Omega.{arith}
 use lib.ListN.{length, take, drop, length-append, take-append-drop, List·getD-append}
 use lib.Seq.{length-take-le, drop-at}
-use Rattle.chart.specs.Pixels.{rowBytes, cell, bitOf}
+use Rattle.chart.specs.Pixels.{rowBytes, cell, allBytes}
 use Rattle.chart.specs.declared.Chart.{Chart}
 use Rattle.pbm.specs.Header.{white, lineEnd, hash, Header, pastLine, rasterIn}
 use Rattle.pbm.specs.Raster.{Image, rawIn, Sign, blank, pixel, wrong, signOf, Digits, onto, digitsIn, rowsOf, plainIn, imageIn}
@@ -157,7 +157,7 @@ module _ (c : Chart) where
   -- ---- raw
 
   abbrev size : ℕ
-  size = rowBytes (c .width) * c .height
+  size = allBytes c
 
   -- the bytes of all rows say every pixel of the chart
   rows-are-enough : (rows a b : List ℕ) → size ≤ length rows → chartBytes c (cell c (rows ++ a)) ≡ chartBytes c (cell c (rows ++ b))

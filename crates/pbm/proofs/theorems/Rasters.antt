@@ -8,7 +8,7 @@ use native.Mathlib.Omega.{arith}
 use lib.Dec.{eqb}
 use lib.ListN.{length, getD, drop, length-append, List·getD-map}
 use lib.Seq.{drop-at}
-use Rattle.chart.specs.Pixels.{rowBytes, cell, one}
+use Rattle.chart.specs.Pixels.{cell, one, allBytes}
 use Rattle.chart.specs.declared.Chart.{Chart}
 use Rattle.pbm.specs.Header.{white, rasterIn}
 use Rattle.pbm.specs.Raster.{Image, onto, digitsIn, rowsOf, plainIn, imageIn}
@@ -26,14 +26,14 @@ line-passed raster = refl
 -- ---- raw: a chart's bytes
 
 module _ (c : Chart) (set : ℕ → ℕ → Bool) (more : List ℕ) where
-  enough : rowBytes (c .width) * c .height ≤ length (chartBytes c set ++ more)
+  enough : allBytes c ≤ length (chartBytes c set ++ more)
   enough = omega (arith, length-chartBytes c set, length-append (chartBytes c set) more)
 
   pub raw-image : imageIn (record { plain = false; chart = c; rest = 10 ∷ (chartBytes c set ++ more) })
       ≡ some (record { set = cell c (chartBytes c set ++ more); rest = more })
   raw-image =
       let raster = chartBytes c set ++ more in
-      let behind : drop (rowBytes (c .width) * c .height) raster ≡ more = drop-at (chartBytes c set) more _ (length-chartBytes c set) in
+      let behind : drop (allBytes c) raster ≡ more = drop-at (chartBytes c set) more _ (length-chartBytes c set) in
       image-of-raster _ raster (line-passed raster) ∙ raw-whole c raster enough ∙ rw behind
 
 -- ---- plain: a digit for each pixel

@@ -7,7 +7,7 @@ use mathlib.Core.Path.{_≡_, refl, sym, ap, _∙_}
 use Rattle.chart.specs.declared.Chart.{Chart}
 use Rattle.pbm.specs.Header.{white, Header}
 use Rattle.pbm.specs.Raster.{Sign, blank, pixel, wrong, signOf, Digits, onto, digitsIn, rowsOf, plainIn, imageIn}
-use Rattle.pbm.specs.Calls.{readOf}
+use Rattle.pbm.specs.Read.{readOf}
 use Rattle.pbm.proofs.theorems.HeadRead.{sizesText, plain-read}
 use Rattle.pbm.proofs.theorems.Alike.{ReadAlike, ImagesAlike, both-missing, both-there, read-alike}
 use Rattle.pbm.proofs.Digits.{white-blank, blank-first, pixel-first, wrong-first}

@@ -8,12 +8,13 @@ use native.Mathlib.Omega.{arith}
 use lib.Dec.{ltb}
 use lib.ListN.{length}
 use Rattle.laws.specs.Lists.{over}
+use Rattle.point.specs.Outcomes.{outcome}
 use Rattle.point.specs.Refusals.{refuse_when_or_}
-use Rattle.point.specs.declared.refusal.Answer.the-variants.{Done}
+use Rattle.point.specs.declared.refusal.Answer.the-variants.{Done, Refused}
 use Rattle.point.specs.declared.refusal.Refusal.the-variants.{BadSize, NoRoom}
 use Rattle.chart.specs.Pixels.{badChart}
 use Rattle.chart.specs.declared.Chart.{Chart}
-use Rattle.pbm.specs.Calls.{pictureText, written, writtenOf}
+use Rattle.pbm.specs.Write.{pictureText, textHanded, writtenOf}
 
 module _ (c : Chart) (pixels out : List ℕ) where
   pub written-done : (n : ℕ) → writtenOf c pixels out .answer ≡ Done n →
@@ -21,9 +22,9 @@ module _ (c : Chart) (pixels out : List ℕ) where
   unfolding writtenOf
   written-done n = by-tests (badChart c pixels) (ltb (length out) (length (pictureText c pixels)))
     where
-      by-tests : (bad short : Bool) → written (refuse BadSize when bad or refuse NoRoom when short or none) (pictureText c pixels) out .answer ≡ Done n →
+      by-tests : (bad short : Bool) → outcome Refused (refuse BadSize when bad or refuse NoRoom when short or none) out (textHanded (pictureText c pixels) out) .answer ≡ Done n →
           (bad ≡ false) × (n ≡ length (pictureText c pixels)) ×
-          (written (refuse BadSize when bad or refuse NoRoom when short or none) (pictureText c pixels) out .out ≡ over (pictureText c pixels) out)
+          (outcome Refused (refuse BadSize when bad or refuse NoRoom when short or none) out (textHanded (pictureText c pixels) out) .out ≡ over (pictureText c pixels) out)
       by-tests true short e = absurd (let z : _≡_ {A = ℕ} 0 1 = cc in omega arith)
       by-tests false true e = absurd (let z : _≡_ {A = ℕ} 0 1 = cc in omega arith)
       by-tests false false e = (refl, (cc), refl)
@@ -33,4 +34,4 @@ module _ (c : Chart) (pixels out : List ℕ) where
       writtenOf c pixels out ≡ writtenOf c pixels′ out
   unfolding writtenOf
   written-same pixels′ fine fine′ text =
-      rw (fine, fine′) (ap (λ (t : List ℕ). written (refuse NoRoom when ltb (length out) (length t) or none) t out) text)
+      rw (fine, fine′) (ap (λ (t : List ℕ). outcome Refused (refuse NoRoom when ltb (length out) (length t) or none) out (textHanded t out)) text)

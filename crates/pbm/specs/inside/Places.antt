@@ -1,4 +1,4 @@
--- What the functions of this crate promise one another: places of a file in place of what is left of it. Nobody need believe it.
+-- Places of a file, in place of what is left of it.
 use Prim.Native.Nat.{ℕ, _-_, min}
 use mathlib.Core.Bool.{Bool, true, false}
 use mathlib.Core.List.{List, []}

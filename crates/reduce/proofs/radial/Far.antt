@@ -9,10 +9,10 @@ use lib.Ieee.{Float, lt}
 use lib.ListN.{length, drop, getD, drop-of-length-le}
 use lib.Seq.{drop-cons}
 use lib.Signed.{≤ℤ-refl}
+use Rattle.point.specs.Points.{samePoint}
 use Rattle.laws.proofs.Integers.{le-leZ}
 use Rattle.point.specs.declared.PointI32.{PointI32}
-use Rattle.reduce.specs.Distance.{sqDist}
-use Rattle.reduce.specs.Radial.{samePoint, radialEnd, radialFrom, lastOf, radial}
+use Rattle.reduce.specs.Radial.{sqDist, radialEnd, radialFrom, lastOf, radial}
 
 -- ---- how many points it keeps
 

@@ -1,4 +1,4 @@
--- A point, handed out. For the functions inside.
+-- A point of a list, copied to a place of a buffer.
 use Prim.Native.Nat.{ℕ, _+_, _*_}
 use mathlib.Core.List.{List}
 use lib.IntN.{ℤ}

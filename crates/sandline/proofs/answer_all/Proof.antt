@@ -1,4 +1,4 @@
--- `sandline::answer_all` is safe and ends: what a step asks for lies in its buffers. The measure is how many turns are left. Assumes nothing.
+-- `answer_all` is safe and ends: what a step asks for lies in its buffers. The measure is how many turns are left. Assumes nothing.
 use Prim.Native.Nat.{_≤_}
 use mathlib.Core.Path.{_≡_}
 use lib.ListN.{length}

@@ -13,7 +13,7 @@ use lib.Ieee.Digits.{size-lt, size-le}
 use lib.Ieee.Fits.{two, nearest-le}
 use lib.Pow.{pow-add, pow-pos, pow-mono}
 use borrow.Author.Tests.{leb-true, leb-false, eqb-true, eqb-false}
-use Rattle.sqrt.specs.Nearest.{NearestWhole}
+use Rattle.sqrt.specs.inside.Whole.{NearestWhole}
 use Rattle.sqrt.specs.Root.{wholeRoot, nearestRoot}
 use Rattle.sqrt.proofs.whole.WholeRoot.{IsRoot, wholeRoot-is, squares-lt}
 

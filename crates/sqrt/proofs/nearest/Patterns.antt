@@ -13,7 +13,7 @@ use lib.Ieee.Exact.{HasValue, odd-sign, units-val}
 use lib.Ieee.Fits.{two, down-pos}
 use lib.Pow.{pow-add, pow-pos, pow-lt}
 use borrow.Author.Tests.{lt-leb, le-leb, ne-eqb, eqb-false}
-use Rattle.sqrt.specs.Nearest.{NearestWhole}
+use Rattle.sqrt.specs.inside.Whole.{NearestWhole}
 use Rattle.sqrt.specs.Root.{nearestRoot, rootOf}
 use Rattle.sqrt.proofs.nearest.NearestRoot.{size-is, digits-are, nearest-whole, nearest-long}
 

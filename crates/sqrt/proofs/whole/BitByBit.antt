@@ -2,7 +2,7 @@
 -- Assumes nothing.
 use Prim.Native.Nat.{ℕ, _+_, _-_, _*_, _≤_, _<_}
 use native.Mathlib.Omega.{arith}
-use Rattle.sqrt.specs.Nearest.{Found}
+use Rattle.sqrt.specs.inside.Whole.{Found}
 
 module _ (n root left b : ℕ) (so-far : Found n root left (2 * b)) where
   -- the bit belongs to the root: its square with the bit is at most n

@@ -5,7 +5,7 @@ use Prim.Native.Nat.{ℕ, zero, suc, _+_, _-_, _*_, _/_, _%_, _≤_, _<_}
 use mathlib.Core.Path.{_≡_, ap}
 use native.Mathlib.Nat.{le-of-suc-le-suc, lt-of-mul-lt-mul-left, mul-le-mul, mul-le-mul-right, mul-pos, mod-lt, div-add-mod}
 use native.Mathlib.Omega.{arith}
-use Rattle.sqrt.specs.Nearest.{Found, NearestWhole}
+use Rattle.sqrt.specs.inside.Whole.{Found, NearestWhole}
 use Rattle.sqrt.proofs.whole.WholeRoot.{squares-lt}
 
 module _ (s r b high low : ℕ) (small : r ≤ 2 * s) (long : b ≤ 2 * s) (first : high < b) (second : low < b) where

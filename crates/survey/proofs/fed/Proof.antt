@@ -1,4 +1,4 @@
--- `survey::fed` meets its contract: more is held, or no more may come. Assumes nothing.
+-- `fed` meets its contract: more is held, or no more may come. Assumes nothing.
 use Prim.Native.Nat.{ℕ, zero, suc, _+_, _-_, _≤_, _<_}
 use mathlib.Core.Bool.{Bool, true, false, _&&_}
 use native.Mathlib.Omega.{arith}

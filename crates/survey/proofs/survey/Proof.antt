@@ -1,4 +1,4 @@
--- `survey::survey` is safe and ends: what the step asks for lies in its buffers, and each read brings bytes or is the last. Assumes nothing.
+-- `survey` is safe and ends: what the step asks for lies in its buffers, and each read brings bytes or is the last. Assumes nothing.
 use Prim.Native.Nat.{ℕ, _+_, _-_, _≤_, _<_}
 use mathlib.Core.Bool.{Bool, true, false, not, _&&_}
 use mathlib.Core.List.{List}
@@ -34,13 +34,13 @@ first-holds : (a b : Bool) → a && b ≡ true → a ≡ true
 first-holds true b e = refl
 first-holds false b e = e
 
-module _ (file : List ℕ) (more : Bool) (output last : List ℕ) (t : Turn) (e : record { turn = t; output = last } ≡ stepOf file more output) where
-  asks : Asks more (stepOf file more output .turn)
+module _ (file : List ℕ) (more : Bool) (output last : List ℕ) (t : Turn) (e : record { answer = t; out = last } ≡ stepOf file more output) where
+  asks : Asks more (stepOf file more output .answer)
   unfolding stepOf
-  asks = if-cases (λ (s : Step). Asks more (s .turn)) (more && not (whole file)) _ _ (λ h. first-holds more (not (whole file)) h) (λ h. survey-short file)
+  asks = if-cases (λ (s : Step). Asks more (s .answer)) (more && not (whole file)) _ _ (λ h. first-holds more (not (whole file)) h) (λ h. survey-short file)
 
   of-turn : (u : Turn) → t ≡ u → Asks more u
-  of-turn u k = subst (Asks more) (sym (ap (λ (s : Step). s .turn) e) ∙ k) asks
+  of-turn u k = subst (Asks more) (sym (ap (λ (s : Step). s .answer) e) ∙ k) asks
 
   reads-on : t ≡ Read → more ≡ true
   reads-on k = of-turn Read k

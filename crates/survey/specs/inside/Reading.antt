@@ -1,4 +1,4 @@
--- What the program's read promises its loop. Nobody need believe it.
+-- What the program's read promises its loop.
 use Prim.Native.Nat.{ℕ, _+_, _-_, _≤_, _<_}
 use mathlib.Core.Bool.{true}
 use Rattle.chart.specs.Pixels.{one}

@@ -8,13 +8,14 @@ use native.Mathlib.Omega.{arith}
 use mir.Syntax.{w32, w64}
 use mir.Val.{Fits, ofZ, toZ}
 use mir.ValLaws.{toZ-ofZ}
+use Rattle.point.specs.Points.{samePoint}
 use Rattle.laws.proofs.Integers.{sfits-abs}
 use Rattle.point.specs.declared.PointI32.{PointI32}
 use Rattle.chart.specs.Pixels.{badChart}
 use Rattle.chart.specs.declared.Chart.{Chart}
-use Rattle.walker.specs.Walk.{samePoint, Walk, closed, no-way, stuck, after}
+use Rattle.walker.specs.Walk.{Walk, closed, no-way, stuck, after}
 use Rattle.walker.specs.inside.Course.{OnEdge, ranOn, rest, point, placeOf, counted}
-use Rattle.walker.specs.declared.Place.{Place}
+use Rattle.walker.specs.declared.run.Place.{Place}
 use Rattle.walker.proofs.course.Rest.{ran-facts, rest-is, judged-stuck, judged-closed, judged-on}
 use Rattle.walker.proofs.run.Running.{small}
 

@@ -6,15 +6,16 @@ use mathlib.Core.Option.{Option, some, none}
 use mathlib.Core.Path.{_≡_, refl, sym, ap, _∙_}
 use native.Mathlib.Omega.{arith}
 use lib.Dec.{ltb, lit<}
+use Rattle.point.specs.Points.{samePoint}
 use Rattle.point.specs.declared.PointI32.{PointI32}
 use Rattle.chart.specs.Pixels.{pixelAt, aroundOf, badChart}
 use Rattle.chart.specs.declared.Chart.{Chart}
-use Rattle.walker.specs.Walk.{Pixels, Way, up, right, down, left, Walker, samePoint, moved, Run, ends, nowhere, run, Walk, closed, no-way, stuck, after, follow}
+use Rattle.walker.specs.Walk.{Pixels, Way, up, right, down, left, Walker, moved, Run, ends, nowhere, run, Walk, closed, no-way, stuck, after, follow}
 use Rattle.walker.specs.inside.Course.{exitIn, OnEdge, ranOn, point, wentOn}
-use Rattle.walker.specs.declared.Place.{Place}
+use Rattle.walker.specs.declared.run.Place.{Place}
 use Rattle.walker.proofs.exits.Tables.{wayNo, exit-in}
-use Rattle.walker.proofs.Came.{Along, along-stood, stood}
-use Rattle.walker.proofs.Edges.{room-most, on-lattice, OnLattice}
+use Rattle.walker.proofs.WayBack.{Along, along-stood, stood}
+use Rattle.walker.proofs.ShortRuns.{room-most, on-lattice, OnLattice}
 use Rattle.walker.proofs.run.Runs.{placed, Ran, ran}
 
 -- the way of a number

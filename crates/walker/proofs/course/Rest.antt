@@ -7,12 +7,13 @@ use mathlib.Core.Path.{_≡_, refl, sym, ap, subst, _∙_}
 use native.Mathlib.Omega.{arith}
 use lib.Dec.{ltb}
 use borrow.Author.Tests.{lt-ltb, le-ltb, ltb-true, ltb-false}
+use Rattle.point.specs.Points.{samePoint}
 use Rattle.point.specs.declared.PointI32.{PointI32}
 use Rattle.chart.specs.Pixels.{badChart}
 use Rattle.chart.specs.declared.Chart.{Chart}
-use Rattle.walker.specs.Walk.{samePoint, Walk, closed, stuck, after}
+use Rattle.walker.specs.Walk.{Walk, closed, stuck, after}
 use Rattle.walker.specs.inside.Course.{OnEdge, ranOn, point, wentOn, rest}
-use Rattle.walker.specs.declared.Place.{Place}
+use Rattle.walker.specs.declared.run.Place.{Place}
 use Rattle.walker.proofs.course.Follow.{run-ends, judged, went-on}
 
 -- ---- the verdict after a run

@@ -16,13 +16,14 @@ use lib.ListN.{length, take, drop, set, length-set, take-append-drop}
 use lib.Seq.{take-suc-set, drop-set-lt, drop-drop}
 use borrow.Author.Tests.{ltb-true, ltb-false}
 use Rattle.laws.proofs.Integers.{sfits-abs}
-use Rattle.point.specs.Points.{flat}
+use Rattle.point.specs.Points.{flat, samePoint}
 use Rattle.point.specs.declared.PointI32.{PointI32}
+use Rattle.point.proofs.Flat.{length-flat}
 use Rattle.chart.specs.Pixels.{badChart}
 use Rattle.chart.specs.declared.Chart.{Chart}
-use Rattle.walker.specs.Walk.{samePoint, Walk, closed, no-way, stuck, after}
+use Rattle.walker.specs.Walk.{Walk, closed, no-way, stuck, after}
 use Rattle.walker.specs.inside.Course.{OnEdge, ranOn, rest, point, placeOf, pointsOf, isClosed, HasRoom, written}
-use Rattle.walker.specs.declared.Place.{Place}
+use Rattle.walker.specs.declared.run.Place.{Place}
 use Rattle.walker.proofs.course.Rest.{ran-facts, rest-is, judged-stuck, judged-closed, judged-on}
 use Rattle.walker.proofs.course.Follow.{judged}
 use Rattle.walker.proofs.run.Running.{small}
@@ -196,7 +197,7 @@ module _ (c : Chart) (pixels : List ℕ) (cw : Bool) (start : PointI32) (way : �
             unfolding written
             write-last e =
                 let o = here-is (sym says ∙ e) in
-                let n : i + 2 ≡ 2 + length (pointsOf whole) * 2 = omega (arith, inv .count, ap length o) in
+                let n : i + 2 ≡ length (flat (start ∷ pointsOf whole)) = omega (arith, inv .count, ap length o, length-flat (start ∷ pointsOf whole)) in
                 sym (take-append-drop (i + 2) last)
                 ∙ ap₂ _++_
                 (sym (done-next [] o ∙ append-nil (take (i + 2) last)))

@@ -15,8 +15,8 @@ use Rattle.chart.specs.Pixels.{pixelAt, aroundOf, one}
 use Rattle.chart.specs.declared.Chart.{Chart}
 use Rattle.walker.specs.Walk.{Pixels, Way, up, right, down, left, ahead, differ, exit, order, sameWay, first}
 use Rattle.walker.specs.inside.Course.{exitIn, onward, firstExit}
-use Rattle.walker.proofs.Tests.{at-B, allF, at-F, same, same-eq, implies, implied}
-use Rattle.walker.proofs.Lattice.{opposite}
+use Rattle.walker.proofs.AllCases.{at-B, allF, at-F, same, same-eq, implies, implied}
+use Rattle.walker.proofs.Steps.{opposite}
 
 -- the number of a way in the code
 abbrev pub wayNo : Way → ℕ

@@ -19,8 +19,8 @@ use Rattle.chart.specs.declared.Chart.{Chart}
 use Rattle.chart.proofs.FourPixels.{around-lt}
 use Rattle.walker.specs.Walk.{moved}
 use Rattle.walker.specs.inside.Course.{OnEdge, ExitsAfter, across, downward, stepped, turned, next, onward, ranOn, goesOn, point}
-use Rattle.walker.specs.declared.Place.{Place}
-use Rattle.walker.proofs.Came.{stood, along-on}
+use Rattle.walker.specs.declared.run.Place.{Place}
+use Rattle.walker.proofs.WayBack.{stood, along-on}
 use Rattle.walker.proofs.run.Runs.{placed, placed-moved}
 use Rattle.walker.proofs.course.Follow.{edge-walker, edge-lattice, on-edge, run-ends}
 

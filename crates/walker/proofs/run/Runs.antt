@@ -12,11 +12,11 @@ use Rattle.chart.specs.Pixels.{pixelAt, aroundOf, badChart}
 use Rattle.chart.specs.declared.Chart.{Chart}
 use Rattle.walker.specs.Walk.{Pixels, Way, up, right, down, left, Walker, ahead, sameWay, moved, taken, Run, ends, nowhere, run}
 use Rattle.walker.specs.inside.Course.{across, downward, stepped, turned, next, onward, ranOn, goesOn}
-use Rattle.walker.specs.declared.Place.{Place}
-use Rattle.walker.proofs.Tests.{at-W2, same, same-eq}
+use Rattle.walker.specs.declared.run.Place.{Place}
+use Rattle.walker.proofs.AllCases.{at-W2, same, same-eq}
 use Rattle.walker.proofs.exits.Tables.{wayNo}
-use Rattle.walker.proofs.Came.{Along, along-on}
-use Rattle.walker.proofs.Edges.{room, room-falls}
+use Rattle.walker.proofs.WayBack.{Along, along-on}
+use Rattle.walker.proofs.ShortRuns.{room, room-falls}
 
 -- where a walker stands that is about to go in a direction
 abbrev pub placed : Walker → Way → Place

@@ -1,20 +1,21 @@
 -- The walk as `course.rt` follows it: a place and the exit taken from there, by the four pixels around it, in place of the two points that
--- were passed before. The private functions promise this; proofs/Follow shows that it is the walk of `Walk`, so nobody need believe it.
+-- were passed before. That it is the walk of `Walk` is shown in proofs/course/Follow.
 use Prim.Native.Nat.{ℕ, zero, suc, _+_, _-_, _*_, _/_, _%_, _^_, _≤_, _<_}
 use mathlib.Core.Bool.{Bool, true, false, not, _&&_}
-use mathlib.Core.List.{List, [], _∷_, _++_}
+use mathlib.Core.List.{List, [], _∷_}
 use mathlib.Core.Option.{Option, some, none}
 use mathlib.Core.Path.{_≡_}
 use lib.Dec.{ltb, eqb}
 use lib.IntN.{ℤ, pos, negsuc, _+ℤ_}
-use lib.ListN.{length, drop}
-use Rattle.point.specs.Points.{flat}
+use lib.ListN.{length}
 use Rattle.laws.specs.If.{if_then_else_}
+use Rattle.laws.specs.Lists.{over}
+use Rattle.point.specs.Points.{flat, samePoint}
 use Rattle.point.specs.declared.PointI32.{PointI32}
 use Rattle.chart.specs.Pixels.{aroundOf}
 use Rattle.chart.specs.declared.Chart.{Chart}
-use Rattle.walker.specs.Walk.{Walk, closed, no-way, stuck, after, samePoint, differ}
-use Rattle.walker.specs.declared.Place.{Place}
+use Rattle.walker.specs.Walk.{Walk, closed, no-way, stuck, after, differ}
+use Rattle.walker.specs.declared.run.Place.{Place}
 
 -- ---- directions are 0 up, 1 right, 2 down, 3 left, and m is what lies around a point, as `chart::around` numbers it
 
@@ -36,9 +37,9 @@ exitIn m way =
     if eqb way 2 then differ (has m 2) (has m 1) else
     differ (has m 2) (has m 8)
 
-abbrev pub order : Bool → List ℕ
-order true = 0 ∷ 1 ∷ 2 ∷ 3 ∷ []
-order false = 3 ∷ 2 ∷ 1 ∷ 0 ∷ []
+abbrev pub ways : Bool → List ℕ
+ways true = 0 ∷ 1 ∷ 2 ∷ 3 ∷ []
+ways false = 3 ∷ 2 ∷ 1 ∷ 0 ∷ []
 
 -- the first that passes a test, or else `other`
 unfoldable pub pick : (ℕ → Bool) → List ℕ → ℕ → ℕ
@@ -48,12 +49,12 @@ pick test (way ∷ ways) other = if test way then way else pick test ways other
 -- the exit taken from the start; 4 where there is none
 unfoldable pub firstExit : ℕ → Bool → ℕ
 unfolding pick exitIn
-firstExit m clockwise = pick (exitIn m) (order clockwise) 4
+firstExit m clockwise = pick (exitIn m) (ways clockwise) 4
 
 -- the exit taken after a move in a direction: the first that does not lead back
 unfoldable pub onward : ℕ → Bool → ℕ → ℕ
 unfolding pick exitIn
-onward m clockwise way = pick (λ k. not (eqb k ((way + 2) % 4)) && exitIn m k) (order clockwise) 0
+onward m clockwise way = pick (λ k. not (eqb k ((way + 2) % 4)) && exitIn m k) (ways clockwise) 0
 
 -- two bits of a word for each m: the exits taken after a move; four bits: those taken from the start
 pub record ExitsAfter (word : ℕ) (clockwise : Bool) (way : ℕ) : Type 0 where
@@ -141,5 +142,5 @@ pub record HasRoom (out : List ℤ) (walk : Walk) : Type 0 where
 
 -- the start and a walk, laid over the start of a buffer
 unfoldable pub written : List ℤ → PointI32 → Walk → List ℤ
-unfolding flat
-written out start walk = flat (start ∷ pointsOf walk) ++ drop (2 + length (pointsOf walk) * 2) out
+unfolding flat over
+written out start walk = over (flat (start ∷ pointsOf walk)) out

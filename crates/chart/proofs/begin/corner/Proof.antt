@@ -1,4 +1,4 @@
--- `chart::corner` meets its contract: small numbers are their own `i32`. Assumes nothing.
+-- `chart::begin::corner` meets its contract: small numbers are their own `i32`. Assumes nothing.
 use Prim.Native.Nat.{ℕ, _<_}
 use mathlib.Core.Path.{_≡_}
 use native.Mathlib.Omega.{arith}

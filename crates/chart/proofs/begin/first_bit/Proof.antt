@@ -1,6 +1,6 @@
--- `chart::first_bit` meets its contract. Assumes nothing.
+-- `chart::begin::first_bit` meets its contract. Assumes nothing.
 use borrow.Author.Needs.{needs}
-use Rattle.chart.proofs.Digits.{zeros-fit, first-set}
+use Rattle.chart.proofs.OneByte.{zeros-fit, first-set}
 use Rattle.chart.proofs.begin.first_bit.Statement.{statement}
 use Rattle.chart.proofs.begin.first_bit.Tie as tie
 

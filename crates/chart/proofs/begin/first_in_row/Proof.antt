@@ -1,4 +1,4 @@
--- `chart::first_in_row` meets its contract. The loop's invariant: before byte `i` the row is blank. Assumes nothing.
+-- `chart::begin::first_in_row` meets its contract. The loop's invariant: before byte `i` the row is blank. Assumes nothing.
 use Prim.Native.Nat.{_≤_, _-_, _*_}
 use mathlib.Core.Path.{_≡_}
 use borrow.Author.Needs.{needs}

@@ -1,4 +1,4 @@
--- `chart::first_start` meets its contract. The loop's invariant: the first `y` rows are blank. Assumes nothing.
+-- `chart::begin::first_start` meets its contract. The loop's invariant: the first `y` rows are blank. Assumes nothing.
 use Prim.Native.Nat.{ℕ, suc, _≤_, _<_, _-_, _+_}
 use mathlib.Core.Bool.{Bool, true, false}
 use mathlib.Core.List.{List}
@@ -12,8 +12,9 @@ use Rattle.point.specs.declared.refusal.Refusal.the-variants.{BadSize}
 use Rattle.chart.specs.declared.Chart.{Chart}
 use Rattle.chart.specs.declared.Start.{Start}
 use Rattle.chart.specs.declared.Start.the-variants.{At, NoWay, Refused}
-use Rattle.chart.specs.Pixels.{Good, badChart}
-use Rattle.chart.specs.Start.{columnOf, firstInRow, firstInRows, firstStart}
+use Rattle.chart.specs.Pixels.{badChart}
+use Rattle.chart.specs.Start.{firstInRow, firstInRows, firstStart}
+use Rattle.chart.specs.inside.Rows.{Good, columnOf}
 use Rattle.chart.proofs.Rows.{good}
 use Rattle.chart.proofs.begin.first_start.Statement.{statement}
 use Rattle.chart.proofs.begin.first_start.Tie as tie

@@ -1,4 +1,4 @@
--- `chart::area` meets its contract. The loop's invariant: the first `y` rows are counted. Assumes nothing.
+-- `chart::counting::area` meets its contract. The loop's invariant: the first `y` rows are counted. Assumes nothing.
 use Prim.Native.Nat.{ℕ, _≤_, _<_, _-_, _+_, _*_}
 use mathlib.Core.Bool.{Bool, true, false}
 use mathlib.Core.List.{List}
@@ -12,8 +12,9 @@ use borrow.Author.Needs.{needs}
 use Rattle.point.specs.declared.refusal.Refusal.the-variants.{BadSize}
 use Rattle.chart.specs.declared.Chart.{Chart}
 use Rattle.chart.specs.declared.Cells.the-variants.{Set, Refused}
-use Rattle.chart.specs.Pixels.{Good, badChart}
+use Rattle.chart.specs.Pixels.{badChart}
 use Rattle.chart.specs.Area.{rowArea, rowsArea, areaOf}
+use Rattle.chart.specs.inside.Rows.{Good}
 use Rattle.chart.proofs.Rows.{good, row-le, rows-le}
 use Rattle.chart.proofs.counting.area.Statement.{statement}
 use Rattle.chart.proofs.counting.area.Tie as tie

@@ -1,6 +1,6 @@
--- `chart::first_ones` meets its contract. Assumes nothing.
+-- `chart::counting::first_ones` meets its contract. Assumes nothing.
 use borrow.Author.Needs.{needs}
-use Rattle.chart.proofs.Digits.{masked-fits, masked}
+use Rattle.chart.proofs.OneByte.{masked-fits, masked}
 use Rattle.chart.proofs.counting.first_ones.Statement.{statement}
 use Rattle.chart.proofs.counting.first_ones.Tie as tie
 

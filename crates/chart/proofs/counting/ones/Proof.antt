@@ -1,6 +1,6 @@
--- `chart::ones` meets its contract. Assumes nothing.
+-- `chart::counting::ones` meets its contract. Assumes nothing.
 use borrow.Author.Needs.{needs}
-use Rattle.chart.proofs.Digits.{count-fits, all-ones}
+use Rattle.chart.proofs.OneByte.{count-fits, all-ones}
 use Rattle.chart.proofs.counting.ones.Statement.{statement}
 use Rattle.chart.proofs.counting.ones.Tie as tie
 

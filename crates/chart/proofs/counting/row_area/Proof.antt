@@ -1,4 +1,4 @@
--- `chart::row_area` meets its contract. Assumes nothing.
+-- `chart::counting::row_area` meets its contract. Assumes nothing.
 use Prim.Native.Nat.{_≤_, _-_, _*_}
 use mathlib.Core.Path.{_≡_}
 use borrow.Author.Needs.{needs}

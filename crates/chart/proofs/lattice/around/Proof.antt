@@ -1,7 +1,7 @@
--- `lattice::around` meets its contract. Assumes nothing.
+-- `chart::lattice::around` meets its contract. Assumes nothing.
 use mathlib.Core.Path.{sym, _∙_}
 use borrow.Author.Needs.{needs}
-use Rattle.chart.proofs.Signs.{cast, cast-small, around-there, around-read}
+use Rattle.chart.proofs.Coordinates.{cast, cast-small, around-there, around-read}
 use Rattle.chart.proofs.lattice.around.Statement.{statement}
 use Rattle.chart.proofs.lattice.around.Tie as tie
 

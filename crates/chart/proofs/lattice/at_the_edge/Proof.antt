@@ -1,8 +1,8 @@
--- `lattice::at_the_edge` meets its contract. Assumes nothing.
+-- `chart::lattice::at_the_edge` meets its contract. Assumes nothing.
 use mathlib.Core.Logic.{⊎-elim}
 use borrow.Author.Needs.{needs}
-use Rattle.chart.proofs.Signs.{less-read-fits, around-left, around-above, four-read}
-use Rattle.chart.proofs.Places.{pair-le, quad-fits, four-fit}
+use Rattle.chart.proofs.Coordinates.{less-read-fits, around-left, around-above, four-read}
+use Rattle.chart.proofs.BitPlaces.{pair-le, quad-fits, four-fit}
 use Rattle.chart.proofs.lattice.at_the_edge.Statement.{statement}
 use Rattle.chart.proofs.lattice.at_the_edge.Tie as tie
 

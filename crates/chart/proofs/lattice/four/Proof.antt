@@ -1,6 +1,6 @@
--- `lattice::four` meets its contract. Assumes nothing.
+-- `chart::lattice::four` meets its contract. Assumes nothing.
 use borrow.Author.Needs.{needs}
-use Rattle.chart.proofs.Places.{stride-fits, row-bits-fit, bit-fits, parts-narrow, parts-column, one-row, pair-above, pair-below, two-pairs, bits-le, quad-fits, four-fit}
+use Rattle.chart.proofs.BitPlaces.{stride-fits, row-bits-fit, bit-fits, parts-narrow, parts-column, one-row, pair-above, pair-below, two-pairs, bits-le, quad-fits, four-fit}
 use Rattle.chart.proofs.lattice.four.Statement.{statement}
 use Rattle.chart.proofs.lattice.four.Tie as tie
 

@@ -1,6 +1,6 @@
--- `lattice::pair` meets its contract. Assumes nothing.
+-- `chart::lattice::pair` meets its contract. Assumes nothing.
 use borrow.Author.Needs.{needs}
-use Rattle.chart.proofs.Digits.{within-a-byte, across-two, high-digit-fits, pair-fits}
+use Rattle.chart.proofs.OneByte.{within-a-byte, across-two, high-digit-fits, pair-fits}
 use Rattle.chart.proofs.lattice.pair.Statement.{statement}
 use Rattle.chart.proofs.lattice.pair.Tie as tie
 

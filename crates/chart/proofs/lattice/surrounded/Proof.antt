@@ -1,7 +1,7 @@
--- `lattice::surrounded` meets its contract. Assumes nothing.
+-- `chart::lattice::surrounded` meets its contract. Assumes nothing.
 use borrow.Author.Needs.{needs}
 use Rattle.chart.proofs.Sizes.{within-narrow, within-column}
-use Rattle.chart.proofs.Places.{stride-fits, row-bits-fit, bit-fits, no-left, no-top, not-inside, by-length}
+use Rattle.chart.proofs.BitPlaces.{stride-fits, row-bits-fit, bit-fits, no-left, no-top, not-inside, by-length}
 use Rattle.chart.proofs.lattice.surrounded.Statement.{statement}
 use Rattle.chart.proofs.lattice.surrounded.Tie as tie
 
@@ -13,7 +13,7 @@ surrounded-spec =
     (tie.spec
     (λ c. search laws)  -- returns
     (λ c. search laws)  -- returns-2
-    (λ c κs. search laws)  -- inside-requires
+    (λ c κs. search laws)  -- has-pixel-requires
     (λ c. search laws)  -- returns-3
     (λ c κs. search laws)  -- row-bytes-requires
     (λ c. search laws)  -- mul-stride

@@ -1,7 +1,7 @@
--- `lattice::two` meets its contract. Assumes nothing.
+-- `chart::lattice::two` meets its contract. Assumes nothing.
 use borrow.Author.Needs.{needs}
-use Rattle.chart.proofs.Signs.{less-fits, two-read}
-use Rattle.chart.proofs.Places.{double-fits, two-fit}
+use Rattle.chart.proofs.Coordinates.{less-fits, two-read}
+use Rattle.chart.proofs.BitPlaces.{double-fits, two-fit}
 use Rattle.chart.proofs.lattice.two.Statement.{statement}
 use Rattle.chart.proofs.lattice.two.Tie as tie
 

@@ -1,7 +1,7 @@
--- `pixels::pixel` meets its contract. Assumes nothing.
+-- `chart::pixels::pixel` meets its contract. Assumes nothing.
 use mathlib.Core.Logic.{⊎-elim}
 use borrow.Author.Needs.{needs}
-use Rattle.chart.proofs.Signs.{cast, cast-small, pixel-left, pixel-above, pixel-there}
+use Rattle.chart.proofs.Coordinates.{cast, cast-small, pixel-left, pixel-above, pixel-there}
 use Rattle.chart.proofs.pixels.pixel.Statement.{statement}
 use Rattle.chart.proofs.pixels.pixel.Tie as tie
 

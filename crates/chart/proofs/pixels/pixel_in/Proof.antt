@@ -1,7 +1,7 @@
--- `pixels::pixel_in` meets its contract. Assumes nothing.
+-- `chart::pixels::pixel_in` meets its contract. Assumes nothing.
 use borrow.Author.Needs.{needs}
 use Rattle.chart.proofs.Sizes.{within-narrow, within-column}
-use Rattle.chart.proofs.Places.{row-fits, byte-fits, outside, past-the-end, pixel-read}
+use Rattle.chart.proofs.BitPlaces.{row-fits, byte-fits, outside, past-the-end, pixel-read}
 use Rattle.chart.proofs.pixels.pixel_in.Statement.{statement}
 use Rattle.chart.proofs.pixels.pixel_in.Tie as tie
 
@@ -11,7 +11,7 @@ pub pixel-in-spec : {M : Type 1} → statement M
 pixel-in-spec =
     tie.close
     (tie.spec
-    (λ c κs. search laws)  -- inside-requires
+    (λ c κs. search laws)  -- has-pixel-requires
     (λ c. search laws)  -- returns
     (λ c κs. search laws)  -- row-bytes-requires
     (λ c. search laws)  -- mul-at

@@ -1,4 +1,4 @@
--- `pixels::row_bytes` meets its contract. Assumes nothing.
+-- `chart::pixels::row_bytes` meets its contract. Assumes nothing.
 use native.Mathlib.Omega.{arith}
 use borrow.Author.Needs.{needs}
 use Rattle.chart.specs.Pixels.{rowBytes}

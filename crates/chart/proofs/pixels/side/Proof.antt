@@ -1,4 +1,4 @@
--- `pixels::side` meets its contract. Assumes nothing.
+-- `chart::pixels::side` meets its contract. Assumes nothing.
 use borrow.Author.Needs.{needs}
 use Rattle.chart.proofs.Sizes.{long-enough, too-short}
 use Rattle.chart.proofs.pixels.side.Statement.{statement}

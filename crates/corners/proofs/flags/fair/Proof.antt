@@ -1,4 +1,4 @@
--- `corners::fair` meets its contract: its two tests, joined. Assumes nothing.
+-- `fair` meets its contract: its two tests, joined. Assumes nothing.
 use Prim.Native.Nat.{_<_, _^_}
 use mathlib.Core.Bool.{Bool, true, false, _&&_}
 use mathlib.Core.Path.{_≡_, sym, ap, _∙_}
@@ -36,7 +36,7 @@ pub fair-spec : {M : Type 1} → statement M
 fair-spec =
     tie.close
     (tie.spec
-    (λ c κs. search laws)  -- within-requires
-    (λ c κs. search laws)  -- within-requires-2
+    (λ c κs. search laws)  -- up-to-1000-requires
+    (λ c κs. search laws)  -- up-to-1000-requires-2
     (λ c. search laws)  -- returns
     (λ c. search laws))  -- returns-2

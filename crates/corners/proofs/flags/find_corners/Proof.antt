@@ -1,5 +1,5 @@
--- `corners::find_corners` meets its contract: each refusal in its order, and else the flags. Assumes nothing.
-use Prim.Native.Nat.{ℕ, _-_, _/_, _<_, _≤_}
+-- `find_corners` meets its contract: each refusal in its order, and else the flags. Assumes nothing.
+use Prim.Native.Nat.{ℕ, _/_, _<_, _≤_}
 use mathlib.Core.Bool.{Bool, true, false, not, _&&_, false≢true}
 use mathlib.Core.List.{List}
 use mathlib.Core.Path.{_≡_, refl, sym, _∙_}
@@ -12,14 +12,14 @@ use Rattle.laws.proofs.Integers.{range-true}
 use Rattle.laws.proofs.Joined.{both-true}
 use Rattle.laws.specs.Lists.{over}
 use Rattle.point.specs.Limits.{tooMany, badPoints}
-use Rattle.laws.specs.If.{if_then_else_}
+use Rattle.point.specs.Points.{seen}
 use Rattle.point.specs.declared.refusal.Answer.the-variants.{Done, Refused}
 use Rattle.point.specs.declared.refusal.Refusal.the-variants.{TooMany, BadPoint, TooFew, BadSettings, NoRoom}
 use Rattle.point.proofs.Room.{not-bad}
 use Rattle.corners.specs.declared.Pair.{Pair}
 use Rattle.corners.specs.Corners.{cornersOf}
 use Rattle.corners.specs.Calls.{fair, findCornersOf}
-use Rattle.corners.specs.Sizes.{Moderate}
+use Rattle.corners.specs.inside.Sizes.{Moderate}
 use Rattle.corners.proofs.flags.find_corners.Statement.{statement}
 use Rattle.corners.proofs.flags.find_corners.Tie as tie
 
@@ -35,32 +35,32 @@ moderate pair ok e f =
     record { cosine = range-true 999 1000 refl (pair .c) (two .0); sine = from-one (pair .s) (sine .0) (sine .1) }
 
 module _ (list : List ℤ) (pair : Pair) (closed : Bool) (flags : List ℕ) (many : Bool) (sm : many ≡ tooMany (length list)) where
-  too-many : many ≡ true → record { answer = Refused TooMany; flags = flags } ≡ findCornersOf list pair closed flags
+  too-many : many ≡ true → record { answer = Refused TooMany; out = flags } ≡ findCornersOf list pair closed flags
   unfolding findCornersOf
   too-many e = rw (← sm, e)
 
   module _ (e : many ≡ false) (bad : Bool) (sb : bad ≡ badPoints list) where
-    bad-point : bad ≡ true → record { answer = Refused BadPoint; flags = flags } ≡ findCornersOf list pair closed flags
+    bad-point : bad ≡ true → record { answer = Refused BadPoint; out = flags } ≡ findCornersOf list pair closed flags
     unfolding findCornersOf
     bad-point f = rw (← sm, e, ← sb, f)
 
     module _ (f : bad ≡ false) where
-      too-few : length list / 2 ≡ 0 → record { answer = Refused TooFew; flags = flags } ≡ findCornersOf list pair closed flags
+      too-few : length list / 2 ≡ 0 → record { answer = Refused TooFew; out = flags } ≡ findCornersOf list pair closed flags
       unfolding findCornersOf
       too-few z = rw (← sm, e, ← sb, f, eq-eqb (length list / 2) 0 z)
 
       module _ (some : length list / 2 ≡ 0 → ⊥) (ok : Bool) (so : ok ≡ fair pair) where
-        bad-settings : not ok ≡ true → record { answer = Refused BadSettings; flags = flags } ≡ findCornersOf list pair closed flags
+        bad-settings : not ok ≡ true → record { answer = Refused BadSettings; out = flags } ≡ findCornersOf list pair closed flags
         unfolding findCornersOf
         bad-settings g = rw (← sm, e, ← sb, f, ne-eqb (length list / 2) 0 some, ← so, not-true ok g)
 
-        module _ (g : not ok ≡ false) (m : ℕ) (em : m ≡ (if closed then length list / 2 - 1 else length list / 2)) where
-          no-room : length flags < m → record { answer = Refused NoRoom; flags = flags } ≡ findCornersOf list pair closed flags
+        module _ (g : not ok ≡ false) (m : ℕ) (em : m ≡ seen (length list / 2) closed) where
+          no-room : length flags < m → record { answer = Refused NoRoom; out = flags } ≡ findCornersOf list pair closed flags
           unfolding findCornersOf
           no-room h = rw (← sm, e, ← sb, f, ne-eqb (length list / 2) 0 some, ← so, not-false ok g, ← em, lt-ltb (length flags) m h)
 
           done : m ≤ length flags → (last : List ℕ) → last ≡ over (cornersOf list pair closed) flags →
-              record { answer = Done m; flags = last } ≡ findCornersOf list pair closed flags
+              record { answer = Done m; out = last } ≡ findCornersOf list pair closed flags
           unfolding findCornersOf
           done h last l = rw (← sm, e, ← sb, f, ne-eqb (length list / 2) 0 some, ← so, not-false ok g, ← em, le-ltb (length flags) m h, l, ← em)
 

@@ -1,4 +1,4 @@
--- `corners::is_corner` meets its contract. Assumes nothing.
+-- `is_corner` meets its contract. Assumes nothing.
 use Prim.Native.Nat.{ℕ}
 use mathlib.Core.Bool.{Bool, true, false, not, _&&_}
 use mathlib.Core.List.{List}

@@ -1,4 +1,4 @@
--- `corners::is_end` meets its contract: its two tests, joined. Assumes nothing.
+-- `is_end` meets its contract: its two tests, joined. Assumes nothing.
 use Prim.Native.Nat.{ℕ, _+_}
 use mathlib.Core.Path.{_≡_}
 use native.Mathlib.Numerals.{add-one}

@@ -1,4 +1,4 @@
--- `corners::is_open_end` meets its contract: its two tests, joined. Assumes nothing.
+-- `is_open_end` meets its contract: its two tests, joined. Assumes nothing.
 use mathlib.Core.Bool.{Bool, true, _&&_}
 use mathlib.Core.Path.{_≡_, _∙_}
 use borrow.Author.Needs.{needs}

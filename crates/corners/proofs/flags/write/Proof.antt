@@ -1,4 +1,4 @@
--- `corners::write` meets its contract. The loop's invariant: the flags of the first `i` points are written, and the rest is as it was.
+-- `write` meets its contract. The loop's invariant: the flags of the first `i` points are written, and the rest is as it was.
 -- Assumes nothing.
 use Prim.Native.Nat.{ℕ, _+_, _-_, _<_, _≤_}
 use mathlib.Core.Bool.{Bool}
@@ -11,8 +11,9 @@ use lib.ListN.{length, set}
 use borrow.Author.Needs.{needs}
 use Rattle.laws.specs.Lists.{over}
 use Rattle.laws.proofs.Lists.{over-nil, over-push}
+use Rattle.point.specs.Points.{count, seen}
 use Rattle.corners.specs.declared.Pair.{Pair}
-use Rattle.corners.specs.Corners.{isCorner, flag, flagsFrom, seen, cornersOf}
+use Rattle.corners.specs.Corners.{isCorner, flag, flagsFrom, cornersOf}
 use Rattle.corners.proofs.OneMore.{length-flags, one-more}
 use Rattle.corners.proofs.flags.write.Statement.{statement}
 use Rattle.corners.proofs.flags.write.Tie as tie
@@ -40,7 +41,7 @@ module _ (list : List ℤ) (pair : Pair) (closed : Bool) (m : ℕ) (old : List �
         ∙ ap (λ (l : List ℕ). over l old) (sym (one-more list pair closed m 0 i))
         ∙ ap (λ (n : ℕ). over (flagsFrom list pair closed m 0 n) old) (sym (add-one i))
 
-    all : i ≤ m → m ≤ i → m ≡ seen list closed → flags ≡ over (cornersOf list pair closed) old
+    all : i ≤ m → m ≤ i → m ≡ seen (count list) closed → flags ≡ over (cornersOf list pair closed) old
     unfolding cornersOf
     all h k e =
         let f : i ≡ m = omega arith in

@@ -1,4 +1,4 @@
--- `corners::before` meets its contract. Assumes nothing.
+-- `before` meets its contract. Assumes nothing.
 use Prim.Native.Nat.{ℕ, _-_}
 use mathlib.Core.Path.{_≡_}
 use borrow.Author.Needs.{needs}

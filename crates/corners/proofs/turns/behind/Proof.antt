@@ -1,4 +1,4 @@
--- `corners::behind` meets its contract. Assumes nothing.
+-- `behind` meets its contract. Assumes nothing.
 use Prim.Native.Nat.{ℕ, suc, _+_}
 use mathlib.Core.Path.{_≡_}
 use native.Mathlib.Omega.{arith}

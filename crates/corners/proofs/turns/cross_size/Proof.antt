@@ -1,4 +1,4 @@
--- `corners::cross_size` meets its contract: the cross product of two short vectors is small. Assumes nothing.
+-- `cross_size` meets its contract: the cross product of two short vectors is small. Assumes nothing.
 use Prim.Native.Nat.{_≤_}
 use mathlib.Core.Path.{_≡_, _∙_}
 use native.Mathlib.Omega.{arith}

@@ -1,4 +1,4 @@
--- `corners::difference` meets its contract: within the limits it fits. Assumes nothing.
+-- `difference` meets its contract: within the limits it fits. Assumes nothing.
 use borrow.Author.Needs.{needs}
 use Rattle.laws.proofs.Integers.{signed-laws}
 use Rattle.corners.proofs.turns.difference.Statement.{statement}

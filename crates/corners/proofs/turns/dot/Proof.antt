@@ -1,5 +1,5 @@
--- `corners::dot` meets its contract: a cross product of turned vectors is the dot product, and it is small. Assumes nothing.
-use Prim.Native.Nat.{_+_, _≤_}
+-- `dot` meets its contract: a cross product of turned vectors is the dot product, and it is small. Assumes nothing.
+use Prim.Native.Nat.{_≤_}
 use mathlib.Core.Path.{_≡_, ap, _∙_}
 use native.Mathlib.Omega.{arith}
 use mir.Syntax.{w32, w64}

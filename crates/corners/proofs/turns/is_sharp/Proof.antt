@@ -1,31 +1,25 @@
--- `corners::is_sharp` meets its contract: both vectors are short. Assumes nothing.
-use Prim.Native.Nat.{ℕ, _+_, _*_}
-use mathlib.Core.Bool.{Bool, false}
+-- `is_sharp` meets its contract: both vectors are short. Assumes nothing.
+use Prim.Native.Nat.{ℕ}
+use mathlib.Core.Bool.{Bool}
 use mathlib.Core.List.{List}
 use mathlib.Core.Path.{_≡_, _∙_}
 use lib.IntN.{ℤ}
 use borrow.Author.Needs.{needs}
-use Rattle.point.specs.Limits.{badPoints}
 use Rattle.point.specs.declared.PointI32.{PointI32}
-use Rattle.point.proofs.Claims.{coordinates-fit}
+use Rattle.point.proofs.Near.{limit-x, limit-y}
 use Rattle.point.specs.Points.{pointAt}
-use Rattle.util.specs.Near.{Near}
 use Rattle.corners.specs.declared.Pair.{Pair}
 use Rattle.corners.specs.Corners.{vector, before, behind, into, outOf, sharp}
 use Rattle.corners.proofs.turns.is_sharp.Statement.{statement}
 use Rattle.corners.proofs.turns.is_sharp.Tie as tie
 
-module _ (list : List ℤ) where
-  near : (p : PointI32) (k : ℕ) → badPoints list ≡ false → p ≡ pointAt list k → Near p
-  near p k good e = rw e (record { across = coordinates-fit list good (k * 2); down = coordinates-fit list good (k * 2 + 1) })
+judged : (list : List ℤ) (pair : Pair) (m i j k : ℕ) (p q at v1 v2 : PointI32) (r : Bool) → r ≡ sharp pair v1 v2 →
+    v1 ≡ vector p at → v2 ≡ vector at q → at ≡ pointAt list i → p ≡ pointAt list j → q ≡ pointAt list k →
+    j ≡ before m i → k ≡ behind m i → r ≡ sharp pair (into list m i) (outOf list m i)
+unfolding into outOf
+judged list pair m i j k p q at v1 v2 r e e1 e2 ea ep eq ej ek = e ∙ (rw (e1, e2, ea, ep, eq, ej, ek))
 
-  judged : (pair : Pair) (m i j k : ℕ) (p q at v1 v2 : PointI32) (r : Bool) → r ≡ sharp pair v1 v2 →
-      v1 ≡ vector p at → v2 ≡ vector at q → at ≡ pointAt list i → p ≡ pointAt list j → q ≡ pointAt list k →
-      j ≡ before m i → k ≡ behind m i → r ≡ sharp pair (into list m i) (outOf list m i)
-  unfolding into outOf
-  judged pair m i j k p q at v1 v2 r e e1 e2 ea ep eq ej ek = e ∙ (rw (e1, e2, ea, ep, eq, ej, ek))
-
-ruleset laws = (near, judged, needs)
+ruleset laws = (limit-x, limit-y, judged, needs)
 
 pub is-sharp-spec : {M : Type 1} → statement M
 is-sharp-spec =

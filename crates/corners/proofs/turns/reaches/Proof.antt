@@ -1,4 +1,4 @@
--- `corners::reaches` meets its contract: the difference fits. Assumes nothing.
+-- `reaches` meets its contract: the difference fits. Assumes nothing.
 use mathlib.Core.Path.{refl}
 use mir.Facts.{toZ-ofZ}
 use mir.Syntax.{w64}

@@ -1,4 +1,4 @@
--- `corners::scaled` meets its contract: the product fits. Assumes nothing.
+-- `scaled` meets its contract: the product fits. Assumes nothing.
 use mathlib.Core.Path.{refl}
 use mir.Facts.{toZ-ofZ, sfits-widen}
 use mir.Syntax.{w64}

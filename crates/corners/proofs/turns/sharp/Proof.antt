@@ -1,4 +1,4 @@
--- `corners::sharp` meets its contract: the same operations, each on numbers that fit. Assumes nothing.
+-- `sharp` meets its contract: the same operations, each on numbers that fit. Assumes nothing.
 use Prim.Native.Nat.{_≤_}
 use mathlib.Core.Bool.{Bool}
 use mathlib.Core.Path.{_≡_, _∙_}
@@ -13,7 +13,7 @@ use Rattle.util.specs.Area.{crossOf}
 use Rattle.util.proofs.ByBits.{by-bits}
 use Rattle.corners.specs.declared.Pair.{Pair}
 use Rattle.corners.specs.Corners.{dot, cross, sharp}
-use Rattle.corners.specs.Sizes.{Short, Moderate}
+use Rattle.corners.specs.inside.Sizes.{Short, Moderate}
 use Rattle.corners.proofs.Bits.{wide-by-bits}
 use Rattle.corners.proofs.turns.sharp.Statement.{statement}
 use Rattle.corners.proofs.turns.sharp.Tie as tie

@@ -1,4 +1,4 @@
--- `corners::size` meets its contract: a number or its negative. Assumes nothing.
+-- `size` meets its contract: a number or its negative. Assumes nothing.
 use Prim.Native.Nat.{suc, _+_, _≤_}
 use mathlib.Core.Bool.{true, false, true≢false}
 use mathlib.Core.Path.{_≡_, refl, ap, _∙_}

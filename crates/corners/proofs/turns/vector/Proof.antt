@@ -1,4 +1,4 @@
--- `corners::vector` meets its contract. Assumes nothing.
+-- `vector` meets its contract. Assumes nothing.
 use Prim.Native.Nat.{_≤_}
 use mathlib.Core.Path.{_≡_}
 use mir.Syntax.{w32}
@@ -6,10 +6,10 @@ use mir.Val.{ofZ, toZ}
 use lib.IntN.{ℤ, natAbs, _-ℤ_}
 use borrow.Author.Needs.{needs}
 use Rattle.point.specs.declared.PointI32.{PointI32}
-use Rattle.util.specs.Near.{Near}
+use Rattle.point.specs.inside.Near.{Near}
 use Rattle.util.proofs.ByBits.{by-bits, x-by-bits, y-by-bits}
 use Rattle.corners.specs.Corners.{vector}
-use Rattle.corners.specs.Sizes.{Short}
+use Rattle.corners.specs.inside.Sizes.{Short}
 use Rattle.corners.proofs.turns.vector.Statement.{statement}
 use Rattle.corners.proofs.turns.vector.Tie as tie
 

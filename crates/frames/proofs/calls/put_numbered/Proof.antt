@@ -1,4 +1,4 @@
--- `reduce_reply::put_numbered` meets its contract. Assumes nothing.
+-- `put_numbered` meets its contract. Assumes nothing.
 use borrow.Author.Needs.{needs}
 use Rattle.frames.proofs.Room.{numbers-part-fits, numbers-put}
 use Rattle.frames.proofs.calls.put_numbered.Statement.{statement}

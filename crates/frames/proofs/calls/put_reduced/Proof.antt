@@ -1,10 +1,10 @@
--- `reduce_reply::put_reduced` meets its contract. Assumes nothing.
+-- `put_reduced` meets its contract: what a reduction counts fits the room. Assumes nothing.
 use borrow.Author.Needs.{needs}
-use Rattle.frames.proofs.Room.{reduce-fit, reduce-part, reduce-put}
+use Rattle.frames.proofs.Room.{reduce-room, reduce-put}
 use Rattle.frames.proofs.calls.put_reduced.Statement.{statement}
 use Rattle.frames.proofs.calls.put_reduced.Tie as tie
 
-ruleset laws = (reduce-fit, reduce-part, reduce-put, needs)
+ruleset laws = (reduce-room, reduce-put, needs)
 
 pub put-reduced-spec : {M : Type 1} → statement M
 put-reduced-spec =
@@ -16,10 +16,7 @@ put-reduced-spec =
     (λ c κs. search laws)  -- reduce-requires
     (λ c κs. search laws)  -- number-requires
     (λ c κs. search laws)  -- count-requires
-    (λ c. search laws)  -- mul-put-points
-    (λ c. search laws)  -- sub-put-points
-    (λ c. search laws)  -- part-put-points-start
-    (λ c. search laws)  -- part-put-points-end
-    (λ c κs. search laws)  -- put-points-requires
+    (λ c. search laws)  -- slice-aggregate-put-counted
+    (λ c κs. search laws)  -- put-counted-requires
     (λ c. search laws)  -- same-length
     (λ c. search laws))  -- returns

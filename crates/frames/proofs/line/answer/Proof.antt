@@ -1,6 +1,6 @@
--- `frames::answer` meets its contract. Assumes nothing.
+-- `answer` meets its contract. Assumes nothing.
 use borrow.Author.Needs.{needs}
-use Rattle.frames.proofs.Bytes.{in-array, a-frame, no-bytes}
+use Rattle.frames.proofs.line.Bytes.{in-array, a-frame, no-bytes}
 use Rattle.frames.proofs.line.answer.Statement.{statement}
 use Rattle.frames.proofs.line.answer.Tie as tie
 

@@ -1,6 +1,6 @@
--- `frames::reply` meets its contract. Assumes nothing.
+-- `reply` meets its contract. Assumes nothing.
 use borrow.Author.Needs.{needs}
-use Rattle.frames.proofs.Arms.{rows-begin, a-walk, simplify-few, a-simplify, reduce-few, a-reduce, numbers-few, a-numbers, no-frame-is}
+use Rattle.frames.proofs.line.Arms.{rows-begin, a-walk, simplify-few, a-simplify, reduce-few, a-reduce, numbers-few, a-numbers, no-frame-is}
 use Rattle.frames.proofs.line.reply.Statement.{statement}
 use Rattle.frames.proofs.line.reply.Tie as tie
 

@@ -1,5 +1,5 @@
--- `replies::pattern` meets its contract: below zero, 2 ^ 32 - 1 less how far below -1 the value lies. Assumes nothing.
-use Prim.Native.Nat.{ℕ, suc, _-_, _≤_, _<_}
+-- `pattern` meets its contract: below zero, 2 ^ 32 - 1 less how far below -1 the value lies. Assumes nothing.
+use Prim.Native.Nat.{ℕ, _-_, _≤_, _<_}
 use mathlib.Core.Bool.{true, false}
 use mathlib.Core.Path.{_≡_, refl, ap, _∙_}
 use native.Mathlib.Omega.{arith}
@@ -10,34 +10,30 @@ use mir.Syntax.{w32, w64}
 use mir.Val.{Fits, SFits, toZ, ofZ}
 use mir.Facts.{toZ-ofZ, fits-natAbs}
 use borrow.Author.Needs.{needs}
-use borrow.Author.Tests.{le-ltb, ltb-true}
+use borrow.Author.Tests.{ltb-true}
+use Rattle.texts.proofs.Signs.{minus, from-zero}
 use Rattle.frames.proofs.replies.pattern.Statement.{statement}
 use Rattle.frames.proofs.replies.pattern.Tie as tie
 
--- -1 - z, and the bits of z, of a value below zero
-below-zero : (z : ℤ) → ltZ z (pos 0) ≡ true → (negsuc 0 -ℤ z ≡ pos (mag z)) × (4294967295 - mag z ≡ ofZ w32 z)
-below-zero (pos n) h = absurd (none n (ltb-true n 0 h))
-  where
-    none : (n : ℕ) → n < 0 → ⊥
-    none n h = omega arith
-below-zero (negsuc n) h =
-    let e : suc n - 1 ≡ n = omega arith in
-    (rw (le-ltb (suc n) 1 (omega arith), e), omega arith)
+-- the bits of a value, by its sign
+bits-below : (z : ℤ) → ltZ z (pos 0) ≡ true → 4294967295 - mag z ≡ ofZ w32 z
+bits-below (pos n) h = let k : n < 0 = ltb-true n 0 h in absurd (omega arith)
+bits-below (negsuc n) h = omega arith
 
-from-zero : (z : ℤ) → ltZ z (pos 0) ≡ false → T (nonNeg z) × (natAbs z ≡ ofZ w32 z)
-from-zero (pos n) h = (tt, refl)
-from-zero (negsuc n) h = let z : _≡_ {A = ℕ} 0 1 = cc in absurd (omega arith)
+bits-above : (z : ℤ) → T (nonNeg z) → natAbs z ≡ ofZ w32 z
+bits-above (pos n) h = refl
+bits-above (negsuc n) h = absurd h
 
 module _ (z : ℤ) (fits : SFits w32 z) where
   module _ (below : ltZ (toZ w32 (ofZ w32 z)) (pos 0) ≡ true) where
-    minus : negsuc 0 -ℤ toZ w32 (ofZ w32 z) ≡ pos (mag z)
-    minus = rw (toZ-ofZ fits) (below-zero z (rw (toZ-ofZ fits) at below) .0)
+    minus-is : negsuc 0 -ℤ toZ w32 (ofZ w32 z) ≡ pos (mag z)
+    minus-is = rw (toZ-ofZ fits) (minus z (rw (toZ-ofZ fits) at below))
 
     minus-fits : SFits w32 (negsuc 0 -ℤ toZ w32 (ofZ w32 z))
-    minus-fits = rw minus (record { sfits = fits .sfits })
+    minus-fits = rw minus-is (record { sfits = fits .sfits })
 
     back : toZ w32 (ofZ w32 (negsuc 0 -ℤ toZ w32 (ofZ w32 z))) ≡ pos (mag z)
-    back = toZ-ofZ minus-fits ∙ minus
+    back = toZ-ofZ minus-fits ∙ minus-is
 
     minus-size : natAbs (toZ w32 (ofZ w32 (negsuc 0 -ℤ toZ w32 (ofZ w32 z)))) ≡ mag z
     minus-size = ap natAbs back
@@ -52,14 +48,14 @@ module _ (z : ℤ) (fits : SFits w32 z) where
     minus-le k t = rw minus-size (omega (arith, fits .sfits, leb→le 2147483647 k t))
 
     negative : 4294967295 - natAbs (toZ w32 (ofZ w32 (negsuc 0 -ℤ toZ w32 (ofZ w32 z)))) ≡ ofZ w32 z
-    negative = rw minus-size (below-zero z (rw (toZ-ofZ fits) at below) .1)
+    negative = rw minus-size (bits-below z (rw (toZ-ofZ fits) at below))
 
   module _ (above : ltZ (toZ w32 (ofZ w32 z)) (pos 0) ≡ false) where
     itself-nonNeg : T (nonNeg (toZ w32 (ofZ w32 z)))
-    itself-nonNeg = from-zero (toZ w32 (ofZ w32 z)) above .0
+    itself-nonNeg = from-zero (toZ w32 (ofZ w32 z)) above
 
     itself : natAbs (toZ w32 (ofZ w32 z)) ≡ ofZ w32 z
-    itself = rw (toZ-ofZ fits) (from-zero z (rw (toZ-ofZ fits) at above) .1)
+    itself = rw (toZ-ofZ fits) (bits-above z (from-zero z (rw (toZ-ofZ fits) at above)))
 
   itself-fits : Fits w64 (natAbs (toZ w32 (ofZ w32 z)))
   itself-fits = rw (toZ-ofZ fits) (fits-natAbs tt fits)

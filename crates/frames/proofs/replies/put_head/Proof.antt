@@ -1,4 +1,4 @@
--- `replies::put_head` meets its contract: three texts, one behind the other. Assumes nothing.
+-- `put_head` meets its contract: three texts, one behind the other. Assumes nothing.
 use Prim.Native.Nat.{ℕ, _+_, _≤_}
 use mathlib.Core.List.{List, _++_}
 use mathlib.Core.Path.{_≡_}
@@ -14,10 +14,10 @@ use Rattle.frames.proofs.replies.put_head.Statement.{statement}
 use Rattle.frames.proofs.replies.put_head.Tie as tie
 
 three : (kind number count at m n r : ℕ) (out one two last : List ℕ) → at + 8 ≤ length out →
-    record { next = m; out = one } ≡ put (hexText 2 (kind + 128)) out at →
-    record { next = n; out = two } ≡ put (hexText 2 number) one m →
-    record { next = r; out = last } ≡ put (hexText 4 count) two n →
-    record { next = r; out = last } ≡ put (head kind number count) out at
+    record { answer = m; out = one } ≡ put (hexText 2 (kind + 128)) out at →
+    record { answer = n; out = two } ≡ put (hexText 2 number) one m →
+    record { answer = r; out = last } ≡ put (hexText 4 count) two n →
+    record { answer = r; out = last } ≡ put (head kind number count) out at
 three kind number count at m n r out one two last h e f g =
     let first = put-then (hexText 2 (kind + 128)) (hexText 2 number) out one two at m n
     (omega (arith, length-append (hexText 2 (kind + 128)) (hexText 2 number), length-hex 2 (kind + 128), length-hex 2 number)) e f in

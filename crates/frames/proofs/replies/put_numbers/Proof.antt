@@ -1,4 +1,4 @@
--- `replies::put_numbers` meets its contract. The loop's invariant: what is left to put gives the whole. Assumes nothing.
+-- `put_numbers` meets its contract. The loop's invariant: what is left to put gives the whole. Assumes nothing.
 use Prim.Native.Nat.{ℕ, _+_, _*_, _-_, _≤_, _<_}
 use mathlib.Core.Bool.{Bool, false, not}
 use mathlib.Core.List.{List, _++_}
@@ -25,7 +25,7 @@ abbrev μ-loop : tie.MeasureT-loop
 
 -- the values behind the head, where both fit
 module _ (kind number at m : ℕ) (values : List Float) (out mid : List ℕ) (fits : Bool) (says : fits ≡ leb (at + (8 + length values * 16)) (length out))
-    (do-fit : not fits ≡ false) (begun : record { next = m; out = mid } ≡ put (head kind number (length values)) out at) where
+    (do-fit : not fits ≡ false) (begun : record { answer = m; out = mid } ≡ put (head kind number (length values)) out at) where
   whole : at + length (head kind number (length values) ++ doubles values) ≤ length out
   whole = unfold numbersText in all-fits (numbersText kind number values) out at (length values * 16) fits says (length-numbers kind number values) do-fit
 
@@ -33,7 +33,7 @@ module _ (kind number at m : ℕ) (values : List Float) (out mid : List ℕ) (fi
   holds = left-all (head kind number (length values)) (doubles values) out mid at m whole begun
 
   ends : (i end : ℕ) (last : List ℕ) → length values ≤ i → Left (doubles values) mid m (doubles (drop i values)) last end →
-      record { next = end; out = last } ≡ put (numbersText kind number values) out at
+      record { answer = end; out = last } ≡ put (numbersText kind number values) out at
   unfolding numbersText
   ends i end last h l =
       put-then (head kind number (length values)) (doubles values) out mid last at m end whole begun
@@ -41,7 +41,7 @@ module _ (kind number at m : ℕ) (values : List Float) (out mid : List ℕ) (fi
 
 again : (values : List Float) (m i end next bits : ℕ) (mid out last : List ℕ) → i < length values →
     Left (doubles values) mid m (doubles (drop i values)) out end → bits ≡ toBits binary64 (getD values i nan) →
-    record { next = next; out = last } ≡ put (hexText 16 bits) out end →
+    record { answer = next; out = last } ≡ put (hexText 16 bits) out end →
     Left (doubles values) mid m (doubles (drop (i + 1) values)) last next
 unfolding doubles
 again values m i end next bits mid out last h l b e =

@@ -1,4 +1,4 @@
--- `replies::put_points` meets its contract. The loop's invariant: what is left to put gives the whole. Assumes nothing.
+-- `put_points` meets its contract. The loop's invariant: what is left to put gives the whole. Assumes nothing.
 use Prim.Native.Nat.{ℕ, _+_, _*_, _-_, _/_, _^_, _≤_, _<_}
 use mathlib.Core.Bool.{Bool, false, not}
 use mathlib.Core.List.{List, _++_}
@@ -29,7 +29,7 @@ abbrev μ-loop : tie.MeasureT-loop
 
 -- the values behind the head, where both fit
 module _ (kind number at m : ℕ) (values : List ℤ) (out mid : List ℕ) (fits : Bool) (says : fits ≡ leb (at + (8 + length values * 4)) (length out))
-    (do-fit : not fits ≡ false) (begun : record { next = m; out = mid } ≡ put (head kind number (length values / 2)) out at) where
+    (do-fit : not fits ≡ false) (begun : record { answer = m; out = mid } ≡ put (head kind number (length values / 2)) out at) where
   whole : at + length (head kind number (length values / 2) ++ coordinates values) ≤ length out
   whole = unfold pointsText in all-fits (pointsText kind number values) out at (length values * 4) fits says (length-points kind number values) do-fit
 
@@ -37,7 +37,7 @@ module _ (kind number at m : ℕ) (values : List ℤ) (out mid : List ℕ) (fits
   holds = left-all (head kind number (length values / 2)) (coordinates values) out mid at m whole begun
 
   ends : (i end : ℕ) (last : List ℕ) → length values ≤ i → Left (coordinates values) mid m (coordinates (drop i values)) last end →
-      record { next = end; out = last } ≡ put (pointsText kind number values) out at
+      record { answer = end; out = last } ≡ put (pointsText kind number values) out at
   unfolding pointsText
   ends i end last h l =
       put-then (head kind number (length values / 2)) (coordinates values) out mid last at m end whole begun
@@ -46,7 +46,7 @@ module _ (kind number at m : ℕ) (values : List ℤ) (out mid : List ℕ) (fits
 again : (values : List ℤ) (m i end next bits : ℕ) (mid out last : List ℕ) → i < length values →
     Left (coordinates values) mid m (coordinates (drop i values)) out end → mag (getD values i (pos 0)) < 2 ^ 31 →
     bits ≡ ofZ w32 (toZ w32 (ofZ w32 (getD values i (pos 0)))) →
-    record { next = next; out = last } ≡ put (hexText 4 bits) out end →
+    record { answer = next; out = last } ≡ put (hexText 4 bits) out end →
     Left (coordinates values) mid m (coordinates (drop (i + 1) values)) last next
 unfolding coordinates
 again values m i end next bits mid out last h l fits b e =

@@ -1,4 +1,4 @@
--- `lines::fed` meets its contract. Assumes nothing.
+-- `fed` meets its contract. Assumes nothing.
 use Prim.Native.Nat.{ℕ, _+_, _-_, _<_, min}
 use mathlib.Core.Path.{_≡_}
 use native.Mathlib.Omega.{arith}

@@ -1,4 +1,4 @@
--- `lines::last` meets its contract. Assumes nothing.
+-- `last` meets its contract. Assumes nothing.
 use Prim.Native.Nat.{_≤_, _<_}
 use mathlib.Core.Bool.{true, false}
 use mathlib.Core.Path.{_≡_}

@@ -1,4 +1,4 @@
--- `lines::line` meets its contract. Assumes nothing.
+-- `line` meets its contract. Assumes nothing.
 use Prim.Native.Nat.{ℕ}
 use mathlib.Core.Bool.{true, false}
 use mathlib.Core.Path.{_≡_}

@@ -1,4 +1,4 @@
--- `lines::take` meets its contract: the tests on the way pick a line of `took`. Assumes nothing.
+-- `take` meets its contract: the tests on the way pick a line of `took`. Assumes nothing.
 use Prim.Native.Nat.{ℕ, _+_, _-_, _≤_, _<_}
 use mathlib.Core.Bool.{true, false}
 use mathlib.Core.List.{List}
@@ -8,32 +8,33 @@ use lib.ListN.{length, take}
 use borrow.Author.Needs.{needs}
 use borrow.Author.Tests.{lt-ltb, le-ltb}
 use Rattle.words.specs.Line.{firstFrom}
-use Rattle.lines.specs.Reader.{Outcome, inside, newline, lineEnds, inputEnds, refill, took, taken}
+use Rattle.laws.specs.Outcome.{Outcome}
+use Rattle.lines.specs.Reader.{inOrder, newline, lineEnds, inputEnds, refill, took, taken}
 use Rattle.lines.specs.declared.reader.Reader.{Reader}
 use Rattle.lines.specs.declared.reader.Taken.{Taken}
 use Rattle.lines.proofs.reader.take.Statement.{statement}
 use Rattle.lines.proofs.reader.take.Tie as tie
 
-module _ (r h : Reader) (b : List ℕ) (at : ℕ) (t : Taken) (placed : h ≡ inside r (length b)) (first : at ≡ firstFrom 10 (h .seen) (take (h .end - 0) b)) where
+module _ (r h : Reader) (b : List ℕ) (at : ℕ) (t : Taken) (placed : h ≡ inOrder r (length b)) (first : at ≡ firstFrom 10 (h .seen) (take (h .end - 0) b)) where
   found : at ≡ newline h b
   found = let e : h .end - 0 ≡ h .end = omega arith in rw e at first
 
-  of-held : (o : Outcome) → o ≡ took h b → o ≡ taken r b
+  of-held : (o : Outcome Taken (List ℕ)) → o ≡ took h b → o ≡ taken r b
   unfolding taken
   of-held o e = e ∙ ap (λ (q : Reader). took q b) placed
 
-  a-line : at < h .end → t ≡ lineEnds h at (at + 1) → record { answer = t; buffer = b } ≡ taken r b
+  a-line : at < h .end → t ≡ lineEnds h at (at + 1) → record { answer = t; out = b } ≡ taken r b
   unfolding took
-  a-line l e = of-held (record { answer = t; buffer = b }) (rw (e, ← found, lt-ltb _ _ l))
+  a-line l e = of-held (record { answer = t; out = b }) (rw (e, ← found, lt-ltb _ _ l))
 
-  the-last : h .end ≤ at → h .over ≡ true → t ≡ inputEnds h → record { answer = t; buffer = b } ≡ taken r b
+  the-last : h .end ≤ at → h .over ≡ true → t ≡ inputEnds h → record { answer = t; out = b } ≡ taken r b
   unfolding took
-  the-last l o e = of-held (record { answer = t; buffer = b }) (rw (e, ← found, le-ltb _ _ l, o))
+  the-last l o e = of-held (record { answer = t; out = b }) (rw (e, ← found, le-ltb _ _ l, o))
 
-  to-read : (last : List ℕ) → h .end ≤ at → h .over ≡ false → record { answer = t; buffer = last } ≡ refill h b →
-      record { answer = t; buffer = last } ≡ taken r b
+  to-read : (last : List ℕ) → h .end ≤ at → h .over ≡ false → record { answer = t; out = last } ≡ refill h b →
+      record { answer = t; out = last } ≡ taken r b
   unfolding took
-  to-read last l o e = of-held (record { answer = t; buffer = last }) (rw (e, ← found, le-ltb _ _ l, o))
+  to-read last l o e = of-held (record { answer = t; out = last }) (rw (e, ← found, le-ltb _ _ l, o))
 
 ruleset laws = (a-line, the-last, to-read, needs)
 

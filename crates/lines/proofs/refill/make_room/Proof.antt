@@ -1,4 +1,4 @@
--- `lines::make_room` meets its contract: the tests on the way pick a line of `refill`. Assumes nothing.
+-- `make_room` meets its contract: the tests on the way pick a line of `refill`. Assumes nothing.
 use Prim.Native.Nat.{ℕ, _-_}
 use mathlib.Core.Bool.{true, false}
 use mathlib.Core.List.{List, _++_}
@@ -13,17 +13,17 @@ use Rattle.lines.proofs.refill.make_room.Statement.{statement}
 use Rattle.lines.proofs.refill.make_room.Tie as tie
 
 module _ (r : Reader) (b : List ℕ) (t : Taken) where
-  long : t ≡ more 0 (r .over) true → r .long ≡ true → record { answer = t; buffer = b } ≡ refill r b
+  long : t ≡ more 0 (r .over) true → r .long ≡ true → record { answer = t; out = b } ≡ refill r b
   unfolding refill
   long e l = rw (e, l)
 
-  full : t ≡ more 0 (r .over) true → r .long ≡ false → r .end - r .start ≡ length b → record { answer = t; buffer = b } ≡ refill r b
+  full : t ≡ more 0 (r .over) true → r .long ≡ false → r .end - r .start ≡ length b → record { answer = t; out = b } ≡ refill r b
   unfolding refill
   full e l h = rw (e, l, eq-eqb _ _ h)
 
   moved : (last : List ℕ) → last ≡ take (r .end - r .start) (drop (r .start) b) ++ drop (r .end - r .start) b →
       t ≡ more (r .end - r .start) (r .over) false → r .long ≡ false → (r .end - r .start ≡ length b → ⊥) →
-      record { answer = t; buffer = last } ≡ refill r b
+      record { answer = t; out = last } ≡ refill r b
   unfolding refill
   moved last m e l h = rw (m, e, l, ne-eqb _ _ h)
 

@@ -1,4 +1,4 @@
--- `lines::to_front` meets its contract. The loop's invariant: `i` bytes are moved, and from `i` on stands what stood there.
+-- `to_front` meets its contract. The loop's invariant: `i` bytes are moved, and from `i` on stands what stood there.
 -- Assumes nothing.
 use Prim.Native.Nat.{ℕ, _≤_, _<_, _-_, _+_}
 use mathlib.Core.List.{List, _++_}

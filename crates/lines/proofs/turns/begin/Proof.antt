@@ -1,4 +1,4 @@
--- `lines::begin` meets its contract. Assumes nothing.
+-- `begin` meets its contract. Assumes nothing.
 use mathlib.Core.Path.{_≡_}
 use borrow.Author.Needs.{needs}
 use Rattle.lines.specs.Reader.{freshReader}

@@ -1,4 +1,4 @@
--- `lines::fed` meets its contract. Assumes nothing.
+-- `fed` meets its contract. Assumes nothing.
 use Prim.Native.Nat.{ℕ}
 use mathlib.Core.Path.{_≡_}
 use borrow.Author.Needs.{needs}

@@ -1,4 +1,4 @@
--- `lines::turn_of` meets its contract: the tests on the way pick a line of `turnOf`. Assumes nothing.
+-- `turn_of` meets its contract: the tests on the way pick a line of `turnOf`. Assumes nothing.
 use Prim.Native.Nat.{ℕ, _<_, _≤_}
 use mathlib.Core.Path.{_≡_}
 use native.Mathlib.Omega.{arith}

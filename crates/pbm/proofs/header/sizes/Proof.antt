@@ -17,15 +17,15 @@ use Rattle.pbm.proofs.header.sizes.Statement.{statement}
 use Rattle.pbm.proofs.header.sizes.Tie as tie
 
 -- a size that was read is one that stands there
-record Found (file : List ℕ) (o : Option Number) (value end : ℕ) : Type 0 where
+record SizeFound (file : List ℕ) (o : Option Number) (value end : ℕ) : Type 0 where
   number : Number
   is : o ≡ some number
   says : value ≡ min (number .value) 513
   place : end ≡ length file - length (number .rest)
 
-found : (file : List ℕ) (o : Option Number) (value end : ℕ) → Size.Is value end ≡ sizeOf file o → Found file o value end
-found file none value end e = let z : _≡_ {A = ℕ} 0 1 = cc in absurd (omega arith)
-found file (some n) value end e = record { number = n; is = refl; says = cc; place = cc }
+size-found : (file : List ℕ) (o : Option Number) (value end : ℕ) → Size.Is value end ≡ sizeOf file o → SizeFound file o value end
+size-found file none value end e = let z : _≡_ {A = ℕ} 0 1 = cc in absurd (omega arith)
+size-found file (some n) value end e = record { number = n; is = refl; says = cc; place = cc }
 
 missing : (file : List ℕ) (o : Option Number) → Size.Not ≡ sizeOf file o → o ≡ none
 missing file none e = refl
@@ -47,8 +47,8 @@ module _ (file : List ℕ) (plain : Bool) (a : Size) (first : a ≡ sizeOf file 
       nothing = unfold sizesIn in rw (missing file (sizeIn (drop 2 file)) (sym e ∙ first), sizesIn)
 
   module _ (width middle : ℕ) (is : a ≡ Size.Is width middle) (b : Size) (second : b ≡ sizeOf file (sizeIn (drop middle file))) where
-    wide : Found file (sizeIn (drop 2 file)) width middle
-    wide = found file (sizeIn (drop 2 file)) width middle (sym is ∙ first)
+    wide : SizeFound file (sizeIn (drop 2 file)) width middle
+    wide = size-found file (sizeIn (drop 2 file)) width middle (sym is ∙ first)
 
     -- the second size is read from what is left behind the first
     then : b ≡ sizeOf file (sizeIn (wide .number .rest))
@@ -66,7 +66,7 @@ module _ (file : List ℕ) (plain : Bool) (a : Size) (first : a ≡ sizeOf file 
     both : (height end : ℕ) → b ≡ Size.Is height end
         → Head.Is (record { plain = plain; chart = record { width = width; height = height }; end = end }) ≡ headOf file (sizesIn plain (drop 2 file))
     both height end e =
-        let tall : Found file (sizeIn (wide .number .rest)) height end = found file (sizeIn (wide .number .rest)) height end (sym e ∙ then) in
+        let tall : SizeFound file (sizeIn (wide .number .rest)) height end = size-found file (sizeIn (wide .number .rest)) height end (sym e ∙ then) in
         two-sizes file plain (drop 2 file) (wide .number) (tall .number) (wide .is) (tall .is) width height end (wide .says) (tall .says) (tall .place)
 
 ruleset laws = (no-width, no-height, both, needs)

@@ -14,7 +14,7 @@ use lib.ListN.{length, getD, drop}
 use lib.Pow.{pow-mono, shl-exact}
 use borrow.Author.Needs.{needs}
 use borrow.Author.Tests.{ltb-true, ltb-false}
-use Rattle.chart.proofs.Places.{one-le}
+use Rattle.chart.proofs.BitPlaces.{one-le}
 use Rattle.pbm.specs.Bytes.{packed}
 use Rattle.pbm.specs.Raster.{wrong, signOf, Digits, onto, digitsIn}
 use Rattle.pbm.specs.inside.Places.{behindDigits, bitsOf, whole}

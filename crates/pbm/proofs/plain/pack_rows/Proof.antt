@@ -15,8 +15,9 @@ use borrow.Author.Needs.{needs}
 use borrow.Author.Tests.{lt-ltb, le-ltb}
 use Rattle.laws.specs.Lists.{over}
 use Rattle.laws.proofs.Lists.{over-nil}
-use Rattle.chart.specs.Pixels.{rowBytes, side}
+use Rattle.chart.specs.Pixels.{rowBytes, side, allBytes, badSides}
 use Rattle.chart.specs.declared.Chart.{Chart}
+use Rattle.chart.proofs.Sizes.{good-width}
 use Rattle.pbm.specs.Bytes.{packed, byteAt, listed, chartBytes}
 use Rattle.pbm.specs.Raster.{Digits, digitsIn}
 use Rattle.pbm.specs.inside.Places.{behindDigits, bitsOf, whole}
@@ -36,7 +37,7 @@ pixelsOf c d = λ x y. getD (bitsOf d) (y * c .width + x) false
 
 -- what holds of the loop: x is the column of byte i, and the digits from `at` on are those behind the pixels before byte i
 record Packing (c : Chart) (file : List ℕ) (from : ℕ) (old : List ℕ) (bytes : ℕ) (pixels : List ℕ) (at x i : ℕ) : Type 0 where
-  size : bytes ≡ rowBytes (c .width) * c .height
+  size : bytes ≡ allBytes c
   within : i ≤ bytes
   same : length pixels ≡ length old
   column : x ≡ i % rowBytes (c .width) * 8
@@ -49,7 +50,7 @@ Inv-loop file from chart pixels₀ bytes at₀ x₀ i₀ pixels at x i = Packing
 abbrev μ-loop : tie.MeasureT-loop
 μ-loop file from chart pixels₀ bytes at₀ x₀ i₀ pixels at x i = bytes - i
 
-begun : (c : Chart) (file : List ℕ) (from : ℕ) (old : List ℕ) (n : ℕ) → n ≡ rowBytes (c .width) * c .height → Packing c file from old n old from 0 0
+begun : (c : Chart) (file : List ℕ) (from : ℕ) (old : List ℕ) (n : ℕ) → n ≡ allBytes c → Packing c file from old n old from 0 0
 unfolding listed
 begun c file from old n e =
     let z : c .width * c .height - 0 ≡ c .width * c .height = omega arith in
@@ -64,7 +65,7 @@ begun c file from old n e =
 
 -- byte i begins in column x and holds n pixels; the digits from there on begin with them
 module _ (c : Chart) (i x n : ℕ) (wide : side (c .width) ≡ true) (column : x ≡ i % rowBytes (c .width) * 8) (holds : n ≡ min (c .width - x) 8)
-    (inside : i < rowBytes (c .width) * c .height) (rest : List ℕ) (d : Option Digits)
+    (inside : i < allBytes c) (rest : List ℕ) (d : Option Digits)
     (left : digitsIn (c .width * c .height - before (c .width) i) rest ≡ skip (before (c .width) i) d) where
   enough : before (c .width) i + n ≤ c .width * c .height
   enough = rw holds (before-within (c .width) i x wide column (c .height) inside)
@@ -97,7 +98,10 @@ module _ (c : Chart) (i x n : ℕ) (wide : side (c .width) ≡ true) (column : x
 
 -- a turn
 module _ (c : Chart) (file : List ℕ) (from : ℕ) (old : List ℕ) (bytes : ℕ) (pixels : List ℕ) (at x i : ℕ)
-    (inv : Packing c file from old bytes pixels at x i) (wide : side (c .width) ≡ true) where
+    (inv : Packing c file from old bytes pixels at x i) (fine : badSides c ≡ false) where
+  wide : side (c .width) ≡ true
+  wide = good-width (side (c .width)) (side (c .height)) fine
+
   not-past : x ≤ c .width
   not-past = le-of-lt (in-row (c .width) i x wide (inv .column))
 
@@ -105,7 +109,7 @@ module _ (c : Chart) (file : List ℕ) (from : ℕ) (old : List ℕ) (bytes : �
   at-column = column-fits (c .width) i x wide (inv .column)
 
   module _ (more : i < bytes) (n : ℕ) (holds : n ≡ min (c .width - x) 8) (there : whole (digitsOf c file from) ≡ true) where
-    inside : i < rowBytes (c .width) * c .height
+    inside : i < allBytes c
     inside = rw (inv .size) at more
 
     some-pixels : 1 ≤ n
@@ -114,7 +118,7 @@ module _ (c : Chart) (file : List ℕ) (from : ℕ) (old : List ℕ) (bytes : �
     those-there : whole (digitsIn n (drop at file)) ≡ true
     those-there = whole-next c i x n wide (inv .column) holds inside (drop at file) (digitsOf c file from) (inv .left) there
 
-    module _ (room : rowBytes (c .width) * c .height ≤ length old) (byte end : ℕ)
+    module _ (room : allBytes c ≤ length old) (byte end : ℕ)
         (says : byte ≡ packed n (λ j. getD (bitsOf (digitsIn n (drop at file))) j false) * 2 ^ (8 - n))
         (ends : behindDigits (digitsIn n (drop at file)) ≡ some (drop end file)) where
       stored : (y : ℕ) → y ≡ (i + 1) % rowBytes (c .width) * 8 → Packing c file from old bytes (set pixels i byte) end y (i + 1)
@@ -138,10 +142,10 @@ module _ (c : Chart) (file : List ℕ) (from : ℕ) (old : List ℕ) (bytes : �
       row-ends h = stored 0 (next-row (c .width) i x wide (inv .column) h)
 
 all : (c : Chart) (old : List ℕ) (bytes : ℕ) (pixels : List ℕ) (i : ℕ) (p : ℕ → ℕ → Bool) → pixels ≡ over (listed i (byteAt c p)) old
-    → bytes ≡ rowBytes (c .width) * c .height → i ≤ bytes → bytes ≤ i → pixels ≡ over (chartBytes c p) old
+    → bytes ≡ allBytes c → i ≤ bytes → bytes ≤ i → pixels ≡ over (chartBytes c p) old
 unfolding chartBytes
 all c old bytes pixels i p so-far size most least =
-    let e : i ≡ rowBytes (c .width) * c .height = omega arith in
+    let e : i ≡ allBytes c = omega arith in
     so-far ∙ ap (λ (k : ℕ). over (listed k (byteAt c p)) old) e
 
 pub pack-rows-spec : {M : Type 1} → statement M

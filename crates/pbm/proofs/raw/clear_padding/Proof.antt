@@ -1,7 +1,7 @@
 -- `pbm::raw::clear_padding` meets its contract. The loop's invariant: of the first `y` rows the padding is cleared, and row `y` begins at
 -- `end`. Assumes nothing.
 use Prim.Native.Nat.{ℕ, suc, _+_, _-_, _*_, _/_, _^_, _≤_, _<_}
-use mathlib.Core.Bool.{true}
+use mathlib.Core.Bool.{false, not, _||_}
 use mathlib.Core.List.{List, _++_}
 use mathlib.Core.Path.{_≡_, refl, sym, ap, ap₂, subst, _∙_}
 use native.Mathlib.Nat.{mul-zero, mul-suc, mul-le-mul-left}
@@ -12,11 +12,11 @@ use mir.Val.{Fits}
 use lib.ListN.{length, take, drop, getD, set, length-set}
 use lib.Seq.{paste, paste-zero, take-all}
 use borrow.Author.Needs.{needs}
-use Rattle.chart.specs.Pixels.{side, rowBytes, cell}
+use Rattle.chart.specs.Pixels.{side, rowBytes, cell, allBytes, badSides}
 use Rattle.chart.specs.declared.Chart.{Chart}
+use Rattle.chart.proofs.Sizes.{side-within, good-width, width-within}
 use Rattle.pbm.specs.Bytes.{chartBytes}
 use Rattle.pbm.proofs.Bytes.{length-chartBytes}
-use Rattle.pbm.proofs.Copied.{wide-within}
 use Rattle.pbm.proofs.Cleared.{behind-paste, row-cleared}
 use Rattle.pbm.proofs.raw.clear_padding.Statement.{statement}
 use Rattle.pbm.proofs.raw.clear_padding.Tie as tie
@@ -52,10 +52,13 @@ module _ (c : Chart) (old : List ℕ) (at : ℕ) where
   }
 
 -- a row has a byte at least, and padding in the last one alone
-module _ (w row : ℕ) (wide : side w ≡ true) (e : row ≡ rowBytes w) where
+module _ (w h row : ℕ) (fine : (not (side w) || not (side h)) ≡ false) (e : row ≡ rowBytes w) where
+  within : (1 ≤ w) × (w ≤ 512)
+  within = side-within w (good-width (side w) (side h) fine)
+
   bits-fit : Fits w64 (row * 8)
   unfolding rowBytes
-  bits-fit = record { fits = omega (arith, wide-within w wide) }
+  bits-fit = record { fits = omega (arith, within) }
 
   bits-enough : w ≤ row * 8
   unfolding rowBytes
@@ -63,17 +66,17 @@ module _ (w row : ℕ) (wide : side w ≡ true) (e : row ≡ rowBytes w) where
 
   padding-few : row * 8 - w ≤ 7
   unfolding rowBytes
-  padding-few = omega (arith, wide-within w wide)
+  padding-few = omega (arith, within)
 
 module _ (c : Chart) (old : List ℕ) (at row padding : ℕ) (out : List ℕ) (end y : ℕ) (inv : Clearing c old at row padding out end y)
-    (wide : side (c .width) ≡ true) (more : y < c .height) (room : at + rowBytes (c .width) * c .height ≤ length old) where
+    (fine : badSides c ≡ false) (more : y < c .height) (room : at + allBytes c ≤ length old) where
   row-some : 1 ≤ row
   unfolding rowBytes
-  row-some = omega (arith, inv .wide, wide-within (c .width) wide)
+  row-some = omega (arith, inv .wide, width-within c fine)
 
   row-ends : end + row ≤ length out
   row-ends =
-      let e : row * c .height ≡ rowBytes (c .width) * c .height = ap (λ (n : ℕ). n * c .height) (inv .wide) in
+      let e : row * c .height ≡ allBytes c = ap (λ (n : ℕ). n * c .height) (inv .wide) in
       omega (arith, mul-le-mul-left row more, mul-suc row y, inv .begins, inv .same)
 
   end-fits : length old < 2 ^ 64 → Fits w64 (end + row)
@@ -101,7 +104,7 @@ module _ (c : Chart) (old : List ℕ) (at row padding : ℕ) (out : List ℕ) (e
         set (paste old at (rows c old at) (n * y)) (at + (n * y + (n - 1))) v ≡ paste old at (rows c old at) (n * suc y)
 
     clears : Clears row
-    clears = subst Clears (sym (inv .wide)) (row-cleared c old at y (λ i. small i .fits) wide more room)
+    clears = subst Clears (sym (inv .wide)) (row-cleared c old at y (λ i. small i .fits) (good-width (side (c .width)) (side (c .height)) fine) more room)
 
     place : end + row - 1 ≡ at + k
     place = omega (arith, row-some, inv .begins)
@@ -129,9 +132,9 @@ module _ (c : Chart) (old : List ℕ) (at row padding : ℕ) (out : List ℕ) (e
         }
 
 module _ (c : Chart) (old : List ℕ) (at row padding : ℕ) (out : List ℕ) (end y : ℕ) (inv : Clearing c old at row padding out end y) where
-  all : c .height ≤ y → out ≡ take at old ++ rows c old at ++ drop (at + rowBytes (c .width) * c .height) old
+  all : c .height ≤ y → out ≡ take at old ++ rows c old at ++ drop (at + allBytes c) old
   all h =
-      let n = rowBytes (c .width) * c .height in
+      let n = allBytes c in
       let l : length (rows c old at) ≤ n = omega (arith, length-chartBytes c (cell c (drop at old))) in
       let e : y ≡ c .height = omega (arith, inv .within) in
       rw (inv .so-far, inv .wide, e, take-all n (rows c old at) l)

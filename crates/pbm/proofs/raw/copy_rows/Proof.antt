@@ -1,26 +1,26 @@
 -- `pbm::raw::copy_rows` meets its contract: with all bytes copied, the chart's rows stand in `out`, and only their padding is left to clear.
 -- Assumes nothing.
-use Prim.Native.Nat.{ℕ, _+_, _-_, _*_, _≤_, _<_}
+use Prim.Native.Nat.{ℕ, _+_, _-_, _≤_, _<_}
 use mathlib.Core.List.{List, _++_, append-assoc}
 use mathlib.Core.Path.{_≡_, ap, _∙_}
 use native.Mathlib.Omega.{arith}
 use lib.ListN.{length, take, drop, getD, List·getD-append}
 use lib.Seq.{paste, take-at, drop-paste, drop-at, getD-take, length-take-le}
 use borrow.Author.Needs.{needs}
-use Rattle.chart.specs.Pixels.{rowBytes, cell}
+use Rattle.chart.specs.Pixels.{cell, allBytes}
 use Rattle.chart.specs.declared.Chart.{Chart}
-use Rattle.texts.specs.Put.{put, Outcome}
+use Rattle.texts.specs.Put.{put, Placed}
 use Rattle.texts.proofs.Pieces.{put-fits}
 use Rattle.pbm.specs.Bytes.{chartBytes}
 use Rattle.pbm.proofs.Bytes.{rows-alike}
 use Rattle.pbm.proofs.raw.copy_rows.Statement.{statement}
 use Rattle.pbm.proofs.raw.copy_rows.Tie as tie
 
-module _ (c : Chart) (pixels old : List ℕ) (at bytes : ℕ) (size : bytes ≡ rowBytes (c .width) * c .height)
-    (there : rowBytes (c .width) * c .height ≤ length pixels) (room : at + rowBytes (c .width) * c .height ≤ length old) (next : ℕ) (out : List ℕ)
-    (e : record { next = next; out = out } ≡ put (take (bytes - 0) (drop 0 pixels)) old at) where
+module _ (c : Chart) (pixels old : List ℕ) (at bytes : ℕ) (size : bytes ≡ allBytes c)
+    (there : allBytes c ≤ length pixels) (room : at + allBytes c ≤ length old) (next : ℕ) (out : List ℕ)
+    (e : record { answer = next; out = out } ≡ put (take (bytes - 0) (drop 0 pixels)) old at) where
   abbrev n : ℕ
-  n = rowBytes (c .width) * c .height
+  n = allBytes c
 
   put-all : put (take n pixels) old at .out ≡ paste old at pixels n
   put-all =
@@ -31,7 +31,7 @@ module _ (c : Chart) (pixels old : List ℕ) (at bytes : ℕ) (size : bytes ≡ 
   all-copied : out ≡ paste old at pixels n
   all-copied =
       let f : bytes - 0 ≡ n = omega arith in
-      ap (λ (o : Outcome). o .out) e ∙ ap (λ (k : ℕ). put (take k pixels) old at .out) f ∙ put-all
+      ap (λ (o : Placed). o .out) e ∙ ap (λ (k : ℕ). put (take k pixels) old at .out) f ∙ put-all
 
   -- as `out` then stands: what stood before, the bytes that were copied, and what stood behind
   parts : out ≡ take at old ++ (take n pixels ++ drop (at + n) old)

@@ -6,7 +6,7 @@ use mathlib.Core.Path.{_≡_, ap}
 use native.Mathlib.Omega.{arith}
 use lib.ListN.{length, drop, length-drop}
 use borrow.Author.Needs.{needs}
-use Rattle.chart.specs.Pixels.{rowBytes}
+use Rattle.chart.specs.Pixels.{allBytes}
 use Rattle.chart.specs.declared.Chart.{Chart}
 use Rattle.pbm.specs.Raster.{digitsIn}
 use Rattle.pbm.specs.inside.Places.{placeOf, behindDigits, behindImage, imageOf}
@@ -21,17 +21,17 @@ module _ (file : List ℕ) (from : ℕ) (plain : Bool) (c : Chart) where
       → r ≡ placeOf file (behindImage (imageOf plain c (drop from file)))
   by-digits p r e = rw (e, p, plain-behind)
 
-  module _ (p : plain ≡ false) (bytes : ℕ) (all : bytes ≡ rowBytes (c .width) * c .height) where
+  module _ (p : plain ≡ false) (bytes : ℕ) (all : bytes ≡ allBytes c) where
     too-short : length file - from < bytes → Nowhere ≡ placeOf file (behindImage (imageOf plain c (drop from file)))
     too-short h =
-        let l : length (drop from file) < rowBytes (c .width) * c .height = omega (arith, length-drop from file) in
+        let l : length (drop from file) < allBytes c = omega (arith, length-drop from file) in
         rw (p, raw-short c (drop from file) l)
 
     by-rows : bytes ≤ length file - from → from ≤ length file → At (from + bytes) ≡ placeOf file (behindImage (imageOf plain c (drop from file)))
     by-rows h k =
-        let l : rowBytes (c .width) * c .height ≤ length (drop from file) = omega (arith, length-drop from file) in
-        let e : from + bytes ≡ length file - length (drop (rowBytes (c .width) * c .height) (drop from file))
-        = omega (arith, length-drop from file, length-drop (rowBytes (c .width) * c .height) (drop from file)) in
+        let l : allBytes c ≤ length (drop from file) = omega (arith, length-drop from file) in
+        let e : from + bytes ≡ length file - length (drop (allBytes c) (drop from file))
+        = omega (arith, length-drop from file, length-drop (allBytes c) (drop from file)) in
         rw (p, raw-whole c (drop from file) l) (ap At e)
 
 ruleset laws = (area-fits, by-digits, too-short, by-rows, needs)

@@ -8,7 +8,7 @@ use lib.ListN.{length, getD, take, drop, length-drop}
 use lib.Seq.{take-all}
 use borrow.Author.Needs.{needs}
 use Rattle.laws.specs.Lists.{over}
-use Rattle.chart.specs.Pixels.{rowBytes, cell}
+use Rattle.chart.specs.Pixels.{cell, allBytes}
 use Rattle.chart.specs.declared.Chart.{Chart}
 use Rattle.pbm.specs.Bytes.{chartBytes}
 use Rattle.pbm.specs.Raster.{digitsIn}
@@ -26,7 +26,7 @@ module _ (file : List ℕ) (from : ℕ) (plain : Bool) (c : Chart) (has : hasIma
   the-rest : take (length file - from) (drop from file) ≡ drop from file
   the-rest = let l : length (drop from file) ≤ length file - from = omega (arith, length-drop from file) in rw take-all
 
-  are-there : plain ≡ false → rowBytes (c .width) * c .height ≤ length (take (length file - from) (drop from file))
+  are-there : plain ≡ false → allBytes c ≤ length (take (length file - from) (drop from file))
   are-there p = rw the-rest (raw-enough c (drop from file) (rw p at has))
 
   module _ (pixels last : List ℕ) where
@@ -36,11 +36,11 @@ module _ (file : List ℕ) (from : ℕ) (plain : Bool) (c : Chart) (has : hasIma
     packed p e = rw p (e ∙ ap (λ (set : ℕ → ℕ → Bool). over (chartBytes c set) pixels) (sym (plain-set c (drop from file))))
 
     copied : plain ≡ false
-        → last ≡ take 0 pixels ++ chartBytes c (cell c (take (length file - from) (drop from file))) ++ drop (0 + rowBytes (c .width) * c .height) pixels
+        → last ≡ take 0 pixels ++ chartBytes c (cell c (take (length file - from) (drop from file))) ++ drop (0 + allBytes c) pixels
         → last ≡ over (chartBytes c (setOf (imageOf plain c (drop from file)))) pixels
     unfolding over
     copied p e =
-        let z : 0 + rowBytes (c .width) * c .height ≡ length (chartBytes c (cell c (drop from file)))
+        let z : 0 + allBytes c ≡ length (chartBytes c (cell c (drop from file)))
         = omega (arith, length-chartBytes c (cell c (drop from file))) in
         rw p
         (rw the-rest at e

@@ -1,6 +1,6 @@
 -- `pbm::read::read_behind` meets its contract: at each return the tests on the way decide. Assumes nothing.
-use Prim.Native.Nat.{ℕ, _-_, _*_, _≤_, _<_}
-use mathlib.Core.Bool.{Bool, true, false, not, _||_}
+use Prim.Native.Nat.{ℕ, _-_, _≤_, _<_}
+use mathlib.Core.Bool.{Bool, true, false}
 use mathlib.Core.List.{List}
 use mathlib.Core.Option.{Option, some, none}
 use mathlib.Core.Path.{_≡_, refl, sym, ap, _∙_}
@@ -9,19 +9,19 @@ use lib.ListN.{length, drop}
 use borrow.Author.Needs.{needs}
 use Rattle.laws.specs.Lists.{over}
 use Rattle.point.specs.declared.refusal.Refusal.the-variants.{BadSize, NoRoom, BadPicture}
-use Rattle.chart.specs.Pixels.{rowBytes, side}
+use Rattle.chart.specs.Pixels.{allBytes, badSides}
 use Rattle.pbm.specs.Header.{rasterIn}
 use Rattle.pbm.specs.Raster.{Image, imageIn}
 use Rattle.pbm.specs.Bytes.{chartBytes}
-use Rattle.pbm.specs.Calls.{refused, readBehind}
+use Rattle.pbm.specs.Read.{refused, readBehind}
 use Rattle.pbm.specs.inside.Places.{placeOf, headerAt, behindImage, hasImage, setOf, imageOf}
 use Rattle.pbm.specs.declared.Picture.the-variants.{Read}
 use Rattle.pbm.specs.declared.header.Header.{Header}
 use Rattle.pbm.specs.declared.header.Place.{Place}
 use Rattle.pbm.specs.declared.header.Place.the-variants.{At, Nowhere}
 use Rattle.pbm.proofs.Left.{left-place, left-of-left, drop-left, raster-left}
-use Rattle.pbm.proofs.Images.{good-width, good-height, no-raster, image-of-raster}
-use Rattle.pbm.proofs.Outcomes.{Found, found, nowhere, bad-sides, no-image, an-image, no-room, room}
+use Rattle.pbm.proofs.Images.{no-raster, image-of-raster}
+use Rattle.pbm.proofs.Outcomes.{PlaceFound, place-found, nowhere, bad-sides, no-image, an-image, no-room, room}
 use Rattle.pbm.proofs.read.read_behind.Statement.{statement}
 use Rattle.pbm.proofs.read.read_behind.Tie as tie
 
@@ -39,7 +39,7 @@ not-whole : (file : List ℕ) (o : Option Image) → Nowhere ≡ placeOf file (b
 not-whole file none e = refl
 not-whole file (some i) e = let z : _≡_ {A = ℕ} 0 1 = cc in absurd (omega arith)
 
-module _ (file pixels : List ℕ) (h : Header) (b : Bool) (sides : b ≡ (not (side (h .chart .width)) || not (side (h .chart .height)))) where
+module _ (file pixels : List ℕ) (h : Header) (b : Bool) (sides : b ≡ badSides (h .chart)) where
   bad : b ≡ true → refused BadSize pixels ≡ readBehind file (headerAt file h) pixels
   bad e = bad-sides file pixels (headerAt file h) (sym sides ∙ e)
 
@@ -52,7 +52,7 @@ module _ (file pixels : List ℕ) (h : Header) (b : Bool) (sides : b ≡ (not (s
     module _ (from : ℕ) (is : p ≡ At from) where
       begins-there : imageIn (headerAt file h) ≡ imageOf (h .plain) (h .chart) (drop from file)
       begins-there =
-          let f : Found file (rasterIn (drop (h .end) file)) from = found file (rasterIn (drop (h .end) file)) from (sym is ∙ first) in
+          let f : PlaceFound file (rasterIn (drop (h .end) file)) from = place-found file (rasterIn (drop (h .end) file)) from (sym is ∙ first) in
           let l : drop (length file - length (f .rest)) file ≡ f .rest
           = left-place file (f .rest) (left-of-left (drop-left (h .end) file) (raster-left (drop (h .end) file) (f .rest) (f .is))) in
           image-of-raster (headerAt file h) (f .rest) (f .is)
@@ -64,7 +64,7 @@ module _ (file pixels : List ℕ) (h : Header) (b : Bool) (sides : b ≡ (not (s
             no-image file pixels (headerAt file h) (sym sides ∙ fine)
             (begins-there ∙ not-whole file (imageOf (h .plain) (h .chart) (drop from file)) (sym e ∙ second))
 
-        module _ (end : ℕ) (ends : q ≡ At end) (n : ℕ) (all : n ≡ rowBytes (h .chart .width) * h .chart .height) where
+        module _ (end : ℕ) (ends : q ≡ At end) (n : ℕ) (all : n ≡ allBytes (h .chart)) where
           full : length pixels < n → refused NoRoom pixels ≡ readBehind file (headerAt file h) pixels
           full l =
               let w : Whole file (imageOf (h .plain) (h .chart) (drop from file)) end = whole file _ end (sym ends ∙ second) in
@@ -73,19 +73,22 @@ module _ (file pixels : List ℕ) (h : Header) (b : Bool) (sides : b ≡ (not (s
 
           done : n ≤ length pixels → (last : List ℕ)
               → last ≡ over (chartBytes (h .chart) (setOf (imageOf (h .plain) (h .chart) (drop from file)))) pixels
-              → record { answer = Read (h .chart) end; pixels = last } ≡ readBehind file (headerAt file h) pixels
+              → record { answer = Read (h .chart) end; out = last } ≡ readBehind file (headerAt file h) pixels
           done l last e =
               let w : Whole file (imageOf (h .plain) (h .chart) (drop from file)) end = whole file _ end (sym ends ∙ second) in
-              ap (λ (k : ℕ). record { answer = Read (h .chart) k; pixels = last }) (w .says)
-              ∙ ap (λ (l : List ℕ). record { answer = Read (h .chart) (length file - length (w .image .rest)); pixels = l })
+              ap (λ (k : ℕ). record { answer = Read (h .chart) k; out = last }) (w .says)
+              ∙ ap (λ (l : List ℕ). record { answer = Read (h .chart) (length file - length (w .image .rest)); out = l })
               (e ∙ ap (λ (o : Option Image). over (chartBytes (h .chart) (setOf o)) pixels) (w .is))
               ∙ room file pixels (h .chart) (w .image) (rw all at l)
               ∙ an-image file pixels (headerAt file h) (sym sides ∙ fine) (w .image) (begins-there ∙ w .is)
 
 -- what is asked for on the way
+in-range : (b bad : Bool) → b ≡ bad → b ≡ false → bad ≡ false
+in-range b bad says fine = sym says ∙ fine
+
 module _ (file : List ℕ) (o : Option (List ℕ)) (p : Place) (says : p ≡ placeOf file o) where
   inside : (from : ℕ) → p ≡ At from → from ≤ length file
-  inside from e = omega (arith, found file o from (sym e ∙ says) .says)
+  inside from e = omega (arith, place-found file o from (sym e ∙ says) .says)
 
 module _ (file : List ℕ) (o : Option Image) (q : Place) (says : q ≡ placeOf file (behindImage o)) where
   has : (end : ℕ) → q ≡ At end → hasImage o ≡ true
@@ -94,7 +97,7 @@ module _ (file : List ℕ) (o : Option Image) (q : Place) (says : q ≡ placeOf 
 enough : (m n k : ℕ) → n ≡ m → n ≤ k → m ≤ k
 enough m n k e h = omega arith
 
-ruleset laws = (good-width, good-height, inside, has, bad, nothing, broken, full, done, needs)
+ruleset laws = (in-range, inside, has, bad, nothing, broken, full, done, needs)
 
 -- apart, so that an edit which judges in another order is refused here
 returns : tie.Need-returns
@@ -122,6 +125,6 @@ read-behind-spec =
     returns-3
     (λ c κs. search laws)  -- all-bytes-requires
     (λ c. search laws)  -- returns-4
-    (λ c κs. (search good-width, search good-height, search enough, search inside, search has))  -- lay-requires
+    (λ c κs. (search in-range, search enough, search inside, search has))  -- lay-requires
     (λ c. search laws)  -- same-length
     returns-5)

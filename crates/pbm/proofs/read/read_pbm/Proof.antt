@@ -8,7 +8,7 @@ use lib.ListN.{length, drop}
 use borrow.Author.Needs.{needs}
 use Rattle.point.specs.declared.refusal.Refusal.the-variants.{BadPicture}
 use Rattle.pbm.specs.Header.{Header, headerIn}
-use Rattle.pbm.specs.Calls.{Outcome, refused, readBehind, readOf}
+use Rattle.pbm.specs.Read.{Reading, refused, readBehind, readOf}
 use Rattle.pbm.specs.inside.Places.{cut, headOf, headerAt}
 use Rattle.pbm.specs.declared.header.Header as Read
 use Rattle.pbm.specs.declared.header.Head.{Head}
@@ -19,14 +19,14 @@ use Rattle.pbm.proofs.read.read_pbm.Statement.{statement}
 use Rattle.pbm.proofs.read.read_pbm.Tie as tie
 
 -- the header that was read
-record Found (file : List ℕ) (o : Option Header) (h : Read.Header) : Type 0 where
+record HeaderFound (file : List ℕ) (o : Option Header) (h : Read.Header) : Type 0 where
   header : Header
   is : o ≡ some header
   says : h ≡ record { plain = header .plain; chart = cut (header .chart); end = length file - length (header .rest) }
 
-found : (file : List ℕ) (o : Option Header) (h : Read.Header) → Is h ≡ headOf file o → Found file o h
-found file none h e = let z : _≡_ {A = ℕ} 0 1 = cc in absurd (omega arith)
-found file (some header) h e = record { header = header; is = refl; says = cc }
+header-found : (file : List ℕ) (o : Option Header) (h : Read.Header) → Is h ≡ headOf file o → HeaderFound file o h
+header-found file none h e = let z : _≡_ {A = ℕ} 0 1 = cc in absurd (omega arith)
+header-found file (some header) h e = record { header = header; is = refl; says = cc }
 
 missing : (file : List ℕ) (o : Option Header) → Not ≡ headOf file o → o ≡ none
 missing file none e = refl
@@ -36,9 +36,9 @@ module _ (file pixels : List ℕ) (head : Head) (says : head ≡ headOf file (he
   no-picture : head ≡ Not → refused BadPicture pixels ≡ readOf file pixels
   no-picture e = no-header file pixels (missing file (headerIn file) (sym e ∙ says))
 
-  reads-on : (h : Read.Header) → head ≡ Is h → (o : Outcome) → o ≡ readBehind file (headerAt file h) pixels → o ≡ readOf file pixels
+  reads-on : (h : Read.Header) → head ≡ Is h → (o : Reading) → o ≡ readBehind file (headerAt file h) pixels → o ≡ readOf file pixels
   reads-on h e o r =
-      let f : Found file (headerIn file) h = found file (headerIn file) h (sym e ∙ says) in
+      let f : HeaderFound file (headerIn file) h = header-found file (headerIn file) h (sym e ∙ says) in
       let k : drop (length file - length (f .header .rest)) file ≡ f .header .rest
       = left-place file (f .header .rest) (header-left file (f .header) (f .is)) in
       r

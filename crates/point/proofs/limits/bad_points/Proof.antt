@@ -1,4 +1,4 @@
--- `point::bad_points` meets its contract. The loop's invariant: what the coordinates from `i` on say is what all say.
+-- `bad_points` meets its contract. The loop's invariant: what the coordinates from `i` on say is what all say.
 -- Assumes nothing.
 use Prim.Native.Nat.{_≤_, _-_}
 use mathlib.Core.Bool.{_&&_}
@@ -29,7 +29,6 @@ bad-points-spec =
     (λ c. search laws)  -- mul-in-range
     (λ c. search laws)  -- shared-slice-copy-out-in-range
     (λ c κs. search laws)  -- in-range-requires
-    (λ c κs. search laws)  -- both-requires
     (λ c. search laws)  -- add-i
     (λ c. search laws)  -- loop-less
     (λ c. search laws)  -- loop-again

@@ -1,4 +1,4 @@
--- `point::bad_points_f64` meets its contract. The loop's invariant: what the coordinates from `i` on say is what all say.
+-- `bad_points_f64` meets its contract. The loop's invariant: what the coordinates from `i` on say is what all say.
 -- Assumes nothing.
 use Prim.Native.Nat.{_≤_, _-_}
 use mathlib.Core.Bool.{_&&_}
@@ -29,7 +29,6 @@ bad-points-f64-spec =
     (λ c. search laws)  -- mul-in-range-f64
     (λ c. search laws)  -- shared-slice-read-in-range-f64
     (λ c κs. search laws)  -- in-range-f64-requires
-    (λ c κs. search laws)  -- both-requires
     (λ c. search laws)  -- add-i
     (λ c. search laws)  -- loop-less
     (λ c. search laws)  -- loop-again

@@ -1,4 +1,4 @@
--- `point::bad_tolerance` meets its contract. Its limits are those of the definition: antt computes both. Assumes nothing.
+-- `bad_tolerance` meets its contract. Its limits are those of the definition: antt computes both. Assumes nothing.
 use mathlib.Core.Bool.{not}
 use mathlib.Core.Path.{ap}
 use lib.Ieee.{ofBits, ofInt}

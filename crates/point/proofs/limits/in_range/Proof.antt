@@ -1,4 +1,4 @@
--- `point::in_range` meets its contract: its two tests, joined. Assumes nothing.
+-- `in_range` meets its contract: its two tests, joined. Assumes nothing.
 use mir.Facts.{toZ-ofZ}
 use borrow.Author.Needs.{needs}
 use Rattle.laws.proofs.Joined.{and-itself, and-second}

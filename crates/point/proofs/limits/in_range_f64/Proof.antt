@@ -1,4 +1,4 @@
--- `point::in_range_f64` meets its contract. Its limits are those of the definition: antt computes both. Assumes nothing.
+-- `in_range_f64` meets its contract. Its limits are those of the definition: antt computes both. Assumes nothing.
 use lib.Ieee.{ofBits, ofInt, neg}
 use borrow.Author.Needs.{needs}
 use Rattle.point.proofs.limits.in_range_f64.Statement.{statement}

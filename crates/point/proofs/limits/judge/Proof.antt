@@ -1,4 +1,4 @@
--- `passes::judge` meets its contract: at each return the tests on the way pick a line of `refusal`. Assumes nothing.
+-- `judge` meets its contract: at each return the tests on the way pick a line of `refusal`. Assumes nothing.
 use Prim.Native.Nat.{ℕ, _*_, _/_, _<_, _≤_}
 use mathlib.Core.Bool.{Bool, true, false}
 use mathlib.Core.List.{List}

@@ -1,4 +1,4 @@
--- `point::places_for` meets its contract. Assumes nothing.
+-- `places_for` meets its contract. Assumes nothing.
 use Prim.Native.Nat.{ℕ}
 use mathlib.Core.Path.{_≡_}
 use borrow.Author.Needs.{needs}

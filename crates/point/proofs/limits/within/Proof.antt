@@ -1,4 +1,4 @@
--- `point::within` meets its contract: its two tests, joined. Assumes nothing.
+-- `within` meets its contract: its two tests, joined. Assumes nothing.
 use borrow.Author.Needs.{needs}
 use Rattle.laws.proofs.Joined.{and-itself, and-second}
 use Rattle.point.proofs.limits.within.Statement.{statement}

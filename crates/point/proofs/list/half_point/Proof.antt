@@ -1,4 +1,4 @@
--- `outline::half_point` meets its contract: past the last whole point one value is there at most. Assumes nothing.
+-- `half_point` meets its contract: past the last whole point one value is there at most. Assumes nothing.
 use Prim.Native.Nat.{ℕ, _+_, _-_, _*_, _/_, _^_, _<_, _≤_}
 use mathlib.Core.List.{List}
 use mathlib.Core.Path.{_≡_}

@@ -1,4 +1,4 @@
--- `reduce::is_whole` meets its contract. Assumes nothing.
+-- `is_whole` meets its contract. Assumes nothing.
 use Prim.Native.Nat.{ℕ, _<_, _≤_}
 use mathlib.Core.Bool.{Bool, _||_}
 use mathlib.Core.Path.{_≡_}

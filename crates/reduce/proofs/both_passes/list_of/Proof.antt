@@ -1,4 +1,4 @@
--- `reduce::list_of` meets its contract. Assumes nothing.
+-- `list_of` meets its contract. Assumes nothing.
 use Prim.Native.Nat.{ℕ, _-_}
 use mathlib.Core.Bool.{Bool, false}
 use mathlib.Core.List.{List}

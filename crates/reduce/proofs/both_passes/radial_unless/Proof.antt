@@ -1,4 +1,4 @@
--- `reduce::radial_unless` meets its contract. Assumes nothing.
+-- `radial_unless` meets its contract. Assumes nothing.
 use Prim.Native.Nat.{ℕ}
 use mathlib.Core.Bool.{Bool, true, false}
 use mathlib.Core.List.{List, []}

@@ -1,4 +1,4 @@
--- `reduce::reduce` meets its contract: at each return the tests on the way pick a line of `reduceOf`. Assumes nothing.
+-- `reduce` meets its contract: at each return the tests on the way pick a line of `reduceOf`. Assumes nothing.
 use Prim.Native.Nat.{ℕ, _*_}
 use mathlib.Core.Bool.{Bool, true, false, _||_}
 use mathlib.Core.List.{List}
@@ -14,28 +14,28 @@ use Rattle.point.specs.declared.refusal.Answer.{Answer}
 use Rattle.point.specs.declared.refusal.Answer.the-variants.{Refused}
 use Rattle.point.specs.declared.refusal.Refusal.the-variants.{TooMany, BadPoint, BadTolerance, NoRoom}
 use Rattle.point.specs.Points.{count}
-use Rattle.reduce.specs.Reduce.{reduceRefusal, reduceOutcome, reduceOf}
+use Rattle.reduce.specs.Reduce.{reduceRefusal, reduction, reduceOf}
 use Rattle.reduce.proofs.both_passes.reduce.Statement.{statement}
 use Rattle.reduce.proofs.both_passes.reduce.Tie as tie
 
 module _ (list : List ℤ) (tolerance : Float) (out scratch : List ℤ) (marks : List ℕ) (many : Bool) (m : many ≡ tooMany (length list)) where
-  too-many : many ≡ true → record { answer = Refused TooMany; out = out; scratch = scratch; marks = marks } ≡ reduceOf list tolerance out scratch marks
+  too-many : many ≡ true → record { answer = Refused TooMany; out = (out, scratch, marks) } ≡ reduceOf list tolerance out scratch marks
   unfolding reduceOf
   too-many e = rw (← m, e)
 
   module _ (e : many ≡ false) (bad : Bool) (b : bad ≡ badPoints list) where
-    bad-point : bad ≡ true → record { answer = Refused BadPoint; out = out; scratch = scratch; marks = marks } ≡ reduceOf list tolerance out scratch marks
+    bad-point : bad ≡ true → record { answer = Refused BadPoint; out = (out, scratch, marks) } ≡ reduceOf list tolerance out scratch marks
     unfolding reduceOf
     bad-point f = rw (← m, e, ← b, f)
 
     module _ (f : bad ≡ false) (wrong : Bool) (w : wrong ≡ badTolerance tolerance) where
-      bad-tolerance : wrong ≡ true → record { answer = Refused BadTolerance; out = out; scratch = scratch; marks = marks } ≡ reduceOf list tolerance out scratch marks
+      bad-tolerance : wrong ≡ true → record { answer = Refused BadTolerance; out = (out, scratch, marks) } ≡ reduceOf list tolerance out scratch marks
       unfolding reduceOf
       bad-tolerance g = rw (← m, e, ← b, f, ← w, g)
 
       module _ (g : wrong ≡ false) (short : Bool)
           (s : short ≡ (ltb (length out) (placesFor (count list) * 2) || ltb (length scratch) (count list * 2) || ltb (length marks) (count list))) where
-        no-room : short ≡ true → record { answer = Refused NoRoom; out = out; scratch = scratch; marks = marks } ≡ reduceOf list tolerance out scratch marks
+        no-room : short ≡ true → record { answer = Refused NoRoom; out = (out, scratch, marks) } ≡ reduceOf list tolerance out scratch marks
         unfolding reduceOf
         no-room h = rw (← m, e, ← b, f, ← w, g, ← s, h)
 
@@ -43,8 +43,8 @@ module _ (list : List ℤ) (tolerance : Float) (out scratch : List ℤ) (marks :
         nothing-refused h = rw (← m, e, ← b, f, ← w, g, ← s, h)
 
         answered : short ≡ false → (r : Answer) (last after : List ℤ) (marked : List ℕ) →
-            record { answer = r; out = last; scratch = after; marks = marked } ≡ reduceOutcome none list tolerance out scratch marks →
-            record { answer = r; out = last; scratch = after; marks = marked } ≡ reduceOf list tolerance out scratch marks
+            record { answer = r; out = (last, after, marked) } ≡ reduction list tolerance out scratch marks →
+            record { answer = r; out = (last, after, marked) } ≡ reduceOf list tolerance out scratch marks
         unfolding reduceOf
         answered h r last after marked o = rw (← m, e, ← b, f, ← w, g, ← s, h) o
 

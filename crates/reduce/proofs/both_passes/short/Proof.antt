@@ -1,4 +1,4 @@
--- `reduce::short` meets its contract: half as many values are points. Assumes nothing.
+-- `short` meets its contract: half as many values are points. Assumes nothing.
 use Prim.Native.Nat.{ℕ, _*_, _/_, _<_, _≤_}
 use mathlib.Core.Bool.{Bool, true, _||_}
 use mathlib.Core.Path.{_≡_}

@@ -1,9 +1,8 @@
--- `douglas_peucker::simplify_douglas_peucker` meets its contract: at each return the tests on the way pick a line of `douglasPeuckerOf`.
--- Assumes nothing.
+-- `simplify_douglas_peucker` meets its contract: at each return the tests on the way pick a line of `douglasPeuckerOf`. Assumes nothing.
 use Prim.Native.Nat.{ℕ, _/_, _<_, _≤_}
 use mathlib.Core.Bool.{Bool, true, false}
 use mathlib.Core.List.{List}
-use mathlib.Core.Path.{_≡_, ap, _∙_}
+use mathlib.Core.Path.{_≡_, _∙_}
 use native.Mathlib.Omega.{arith}
 use lib.Ieee.{Float}
 use lib.IntN.{ℤ}
@@ -11,66 +10,79 @@ use lib.ListN.{length}
 use borrow.Author.Needs.{needs}
 use borrow.Author.Tests.{eq-eqb, ne-eqb, lt-ltb, le-ltb}
 use Rattle.laws.specs.Lists.{over}
-use Rattle.laws.proofs.Lists.{length-over}
 use Rattle.point.specs.Limits.{tooMany, badPoints, badSqTolerance, placesFor}
 use Rattle.point.specs.Points.{points, count}
-use Rattle.point.specs.declared.refusal.Answer.{Answer}
-use Rattle.point.specs.declared.refusal.Answer.the-variants.{Refused}
+use Rattle.point.specs.declared.refusal.Answer.the-variants.{Done, Refused}
 use Rattle.point.specs.declared.refusal.Refusal.the-variants.{TooMany, BadPoint, TooFew, BadTolerance, NoRoom}
+use Rattle.point.specs.inside.Written.{Handed}
 use Rattle.point.proofs.Flat.{length-points}
-use Rattle.point.proofs.Room.{too-short, long-enough}
+use Rattle.point.proofs.Room.{too-short, long-enough, places-fit}
+use Rattle.split.specs.Buffers.{laidMarks}
 use Rattle.split.specs.Tree.{marksOf}
-use Rattle.split.specs.Marks.{markedOf}
-use Rattle.split.proofs.Claims.{a-mark-for-each-point, marked-over}
-use Rattle.reduce.specs.Keep.{Points, keptMarkedOf}
-use Rattle.reduce.proofs.keep.Handed.{marked-handed}
-use Rattle.reduce.proofs.Marks.{kept-over}
+use Rattle.split.proofs.Claims.{a-mark-for-each-point, marks-over}
 use Rattle.reduce.specs.DouglasPeucker.{douglasPeuckerOf}
+use Rattle.reduce.specs.Kept.{kept}
+use Rattle.reduce.proofs.Select.{kept-over}
 use Rattle.reduce.proofs.douglas_peucker.simplify_douglas_peucker.Statement.{statement}
 use Rattle.reduce.proofs.douglas_peucker.simplify_douglas_peucker.Tie as tie
 
+a-mark-each : (list : List ℤ) (marks now : List ℕ) → count list ≤ length marks → length now ≡ length marks → count list ≤ length now
+a-mark-each list marks now h e = omega arith
+
 module _ (list : List ℤ) (tolerance : Float) (out : List ℤ) (marks : List ℕ) (many : Bool) (m : many ≡ tooMany (length list)) where
-  too-many : many ≡ true → record { answer = Refused TooMany; out = out; marks = marks } ≡ douglasPeuckerOf list tolerance out marks
+  too-many : many ≡ true → record { answer = Refused TooMany; out = (out, marks) } ≡ douglasPeuckerOf list tolerance out marks
   unfolding douglasPeuckerOf
   too-many e = rw (← m, e)
 
   module _ (e : many ≡ false) (bad : Bool) (b : bad ≡ badPoints list) where
-    bad-point : bad ≡ true → record { answer = Refused BadPoint; out = out; marks = marks } ≡ douglasPeuckerOf list tolerance out marks
+    bad-point : bad ≡ true → record { answer = Refused BadPoint; out = (out, marks) } ≡ douglasPeuckerOf list tolerance out marks
     unfolding douglasPeuckerOf
     bad-point f = rw (← m, e, ← b, f)
 
     module _ (f : bad ≡ false) where
-      none : count list ≡ 0 → record { answer = Refused TooFew; out = out; marks = marks } ≡ douglasPeuckerOf list tolerance out marks
+      none : count list ≡ 0 → record { answer = Refused TooFew; out = (out, marks) } ≡ douglasPeuckerOf list tolerance out marks
       unfolding douglasPeuckerOf
       none z = rw (← m, e, ← b, f, eq-eqb _ _ z)
 
       module _ (some : count list ≡ 0 → ⊥) (wrong : Bool) (w : wrong ≡ badSqTolerance tolerance) where
-        bad-tolerance : wrong ≡ true → record { answer = Refused BadTolerance; out = out; marks = marks } ≡ douglasPeuckerOf list tolerance out marks
+        bad-tolerance : wrong ≡ true → record { answer = Refused BadTolerance; out = (out, marks) } ≡ douglasPeuckerOf list tolerance out marks
         unfolding douglasPeuckerOf
         bad-tolerance g = rw (← m, e, ← b, f, ne-eqb _ _ some, ← w, g)
 
         module _ (g : wrong ≡ false) (places : ℕ) (p : places ≡ placesFor (count list)) where
-          no-room : length out / 2 < places → record { answer = Refused NoRoom; out = out; marks = marks } ≡ douglasPeuckerOf list tolerance out marks
+          no-room : length out / 2 < places → record { answer = Refused NoRoom; out = (out, marks) } ≡ douglasPeuckerOf list tolerance out marks
           unfolding douglasPeuckerOf
           no-room h = rw (← m, e, ← b, f, ne-eqb _ _ some, ← w, g, ← p, too-short _ _ h)
 
           module _ (h : places ≤ length out / 2) where
-            no-marks : length marks < count list → record { answer = Refused NoRoom; out = out; marks = marks } ≡ douglasPeuckerOf list tolerance out marks
+            no-marks : length marks < count list → record { answer = Refused NoRoom; out = (out, marks) } ≡ douglasPeuckerOf list tolerance out marks
             unfolding douglasPeuckerOf
             no-marks l = rw (← m, e, ← b, f, ne-eqb _ _ some, ← w, g, ← p, long-enough _ _ h, lt-ltb _ _ l)
 
-            done : count list ≤ length marks → (now : List ℕ) → now ≡ markedOf list tolerance marks → (r : Answer) (last : List ℤ) →
-                record { answer = r; out = last } ≡ keptMarkedOf list now out → record { answer = r; out = last; marks = now } ≡ douglasPeuckerOf list tolerance out marks
+            done : count list ≤ length marks → (now : List ℕ) → now ≡ laidMarks list tolerance marks → (n : ℕ) (last : List ℤ) → Handed (kept now (points list)) out n last →
+                record { answer = Done n; out = (last, now) } ≡ douglasPeuckerOf list tolerance out marks
             unfolding douglasPeuckerOf
-            done l now s r last d =
+            done l now s n last d =
                 let o : 0 < count list = omega arith in
                 let each : length (marksOf tolerance list) ≡ count list = a-mark-for-each-point list tolerance o in
                 let short : length (points list) ≤ length (marksOf tolerance list) = rw (length-points list, each) (omega arith) in
-                let is : now ≡ over (marksOf tolerance list) marks = s ∙ marked-over list tolerance marks o l in
-                let long : length now ≡ length marks = ap length is ∙ length-over (marksOf tolerance list) marks (omega arith) in
-                rw (← m, e, ← b, f, ne-eqb _ _ some, ← w, g, ← p, long-enough _ _ h, le-ltb _ _ l)
-                (ap (λ (k : Points). record { answer = k .answer; out = k .out; marks = now }) (d ∙ marked-handed list now out (omega arith) (omega arith))
-                ∙ rw (is, kept-over (marksOf tolerance list) marks (points list) short))
+                let is : now ≡ over (marksOf tolerance list) marks = s ∙ marks-over list tolerance marks o l in
+                rw (
+                  ← m,
+                  e,
+                  ← b,
+                  f,
+                  ne-eqb _ _ some,
+                  ← w,
+                  g,
+                  ← p,
+                  long-enough _ _ h,
+                  le-ltb _ _ l,
+                  d .counted,
+                  d .written,
+                  is,
+                  kept-over (marksOf tolerance list) marks (points list) short,
+                )
 
 returns-7 : tie.Need-returns-7
 returns-7 c = search done
@@ -90,7 +102,7 @@ simplify-douglas-peucker-spec =
     (λ c. search no-room)  -- returns-5
     (λ c. search no-marks)  -- returns-6
     (λ c κs. tt)  -- mark-requires
-    (λ c κs. tt)  -- keep-marked-requires
+    (λ c κs. (search a-mark-each, search places-fit))  -- keep-marked-requires
     (λ c. search needs)  -- same-length
     (λ c. search needs)  -- same-length-2
     returns-7)

@@ -1,5 +1,5 @@
--- `keeping::keep_all` meets its contract. The loop's invariant: the first `i` values stand over the start of the buffer. Assumes nothing.
-use Prim.Native.Nat.{ℕ, _≤_, _<_, _-_, _+_, _/_, _^_}
+-- `keep_all` meets its contract. The loop's invariant: the first `i` values stand over the start of the buffer. Assumes nothing.
+use Prim.Native.Nat.{ℕ, _≤_, _<_, _-_, _+_, _^_}
 use mathlib.Core.List.{List}
 use mathlib.Core.Path.{_≡_, sym}
 use native.Mathlib.Numerals.{add-one}
@@ -12,12 +12,8 @@ use lib.ListN.{length, take, getD, set}
 use lib.Seq.{take-all, take-suc, length-take-le}
 use lib.Signed.{mag}
 use borrow.Author.Needs.{needs, sfits-of}
-use borrow.Author.Tests.{lt-ltb, le-ltb}
 use Rattle.laws.specs.Lists.{over}
 use Rattle.laws.proofs.Lists.{over-push, over-nil}
-use Rattle.point.specs.declared.refusal.Answer.the-variants.{Done, Refused}
-use Rattle.point.specs.declared.refusal.Refusal.the-variants.{NoRoom}
-use Rattle.reduce.specs.Keep.{keptAllOf}
 use Rattle.reduce.proofs.keep.keep_all.Statement.{statement}
 use Rattle.reduce.proofs.keep.keep_all.Tie as tie
 
@@ -45,13 +41,8 @@ module _ (points out₀ out : List ℤ) (i : ℕ) (inv : out ≡ over (take i po
         take-suc points i (pos 0),
       )
 
-  all-stored : length points ≤ length out₀ → length points ≤ i → record { answer = Done (length points / 2); out = out } ≡ keptAllOf points out₀
-  unfolding keptAllOf
-  all-stored h k = rw (le-ltb (length out₀) (length points) h, inv, take-all i points k)
-
-too-short : (points out : List ℤ) → length out < length points → record { answer = Refused NoRoom; out = out } ≡ keptAllOf points out
-unfolding keptAllOf
-too-short points out h = rw (lt-ltb (length out) (length points) h)
+  all-stored : length points ≤ i → out ≡ over points out₀
+  all-stored k = rw (inv, take-all i points k)
 
 pub keep-all-spec : {M : Type 1} → statement M
 keep-all-spec =
@@ -59,7 +50,6 @@ keep-all-spec =
     (tie.spec
     Inv-loop
     μ-loop
-    (λ c. search too-short)  -- returns
     (λ c. (search needs, search needs, search begun))  -- loop-holds
     (λ c. search needs)  -- mul-out
     (λ c. search needs)  -- shared-slice-copy-out-out
@@ -69,4 +59,4 @@ keep-all-spec =
     (λ c. search needs)  -- loop-less
     (λ c. (search needs, search needs, search stored))  -- loop-again
     (λ c. search needs)  -- same-length
-    (λ c. search all-stored))  -- returns-2
+    (λ c. search all-stored))  -- returns

@@ -1,4 +1,4 @@
--- `zooms::numbers` meets its contract: at each return the tests on the way pick a line of `numberedOf`. Assumes nothing.
+-- `numbers` meets its contract: at each return the tests on the way pick a line of `numberedOf`. Assumes nothing.
 use Prim.Native.Nat.{ℕ, _<_, _≤_}
 use mathlib.Core.Bool.{Bool, true, false}
 use mathlib.Core.List.{List}
@@ -14,9 +14,9 @@ use Rattle.point.specs.declared.refusal.Answer.the-variants.{Done, Refused}
 use Rattle.point.specs.declared.refusal.Refusal.the-variants.{TooMany, BadPoint, TooFew, NoRoom}
 use Rattle.point.specs.Points.{count}
 use Rattle.point.proofs.Room.{places-enough}
-use Rattle.split.specs.Marks.{numberedOf as laidNumbers}
-use Rattle.split.proofs.Claims.{numbered-over}
-use Rattle.reduce.specs.Zoom.{numberedOf}
+use Rattle.split.specs.Buffers.{laidNumbers}
+use Rattle.split.proofs.Claims.{numbers-over}
+use Rattle.reduce.specs.Numbers.{numberedOf}
 use Rattle.reduce.proofs.numbering.numbers.Statement.{statement}
 use Rattle.reduce.proofs.numbering.numbers.Tie as tie
 
@@ -45,7 +45,7 @@ module _ (list : List ℤ) (out : List Float) (many : Bool) (m : many ≡ tooMan
         done h now s =
             let o : 0 < count list = omega arith in
             let l : count list ≤ length out = omega (arith, places-enough (count list)) in
-            rw (← m, e, ← b, f, ne-eqb _ _ some, ← p, le-ltb _ _ h, s, numbered-over list out o l)
+            rw (← m, e, ← b, f, ne-eqb _ _ some, ← p, le-ltb _ _ h, s, numbers-over list out o l)
 
 returns-5 : tie.Need-returns-5
 returns-5 c = search done

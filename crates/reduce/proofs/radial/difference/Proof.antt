@@ -1,4 +1,4 @@
--- `reduce::difference` meets its contract: within the limits the difference fits. Assumes nothing.
+-- `difference` meets its contract: within the limits the difference fits. Assumes nothing.
 use mathlib.Core.Path.{refl}
 use mir.Facts.{toZ-ofZ}
 use mir.Syntax.{w32}

@@ -1,4 +1,4 @@
--- `reduce::get_sq_dist` meets its contract: the squares of the two differences. Assumes nothing.
+-- `get_sq_dist` meets its contract: the squares of the two differences. Assumes nothing.
 use Prim.Native.Nat.{_≤_}
 use mathlib.Core.Path.{_≡_}
 use native.Mathlib.Omega.{arith}
@@ -10,7 +10,7 @@ use lib.Ieee.{Float, binary64, ofInt}
 use borrow.Author.Needs.{needs}
 use Rattle.laws.proofs.Integers.{sfits-abs}
 use Rattle.point.specs.declared.PointI32.{PointI32}
-use Rattle.reduce.specs.Distance.{sqDist}
+use Rattle.reduce.specs.Radial.{sqDist}
 use Rattle.reduce.proofs.radial.get_sq_dist.Statement.{statement}
 use Rattle.reduce.proofs.radial.get_sq_dist.Tie as tie
 

@@ -1,4 +1,4 @@
--- `reduce::keep_far` meets its contract. The loop's invariant: what the radial pass keeps of the points from `k` on, after `prev`, completes
+-- `keep_far` meets its contract. The loop's invariant: what the radial pass keeps of the points from `k` on, after `prev`, completes
 -- what it keeps of all; and `prev` lies within the limits. Assumes nothing.
 use Prim.Native.Nat.{ℕ, _+_, _-_, _*_, _<_, _≤_}
 use mathlib.Core.Bool.{true, false}
@@ -12,16 +12,12 @@ use borrow.Author.Needs.{needs}
 use Rattle.laws.specs.Lists.{over}
 use Rattle.point.specs.Limits.{badPoints, inRange}
 use Rattle.point.specs.Points.{flat, points, count, pointAt}
-use Rattle.point.specs.declared.refusal.Answer.{Answer}
 use Rattle.point.specs.declared.PointI32.{PointI32}
 use Rattle.point.proofs.Claims.{whole-points, coordinates-fit}
 use Rattle.point.specs.inside.Written.{onto, Handed, Left}
 use Rattle.point.proofs.Flat.{length-points, flat-points, points-at}
 use Rattle.point.proofs.Written.{begun-with, from-before, passed, taken, rest-fits, completed}
-use Rattle.reduce.specs.Keep.{Points, keptAllOf}
-use Rattle.reduce.proofs.keep.Handed.{all-handed}
-use Rattle.reduce.specs.Distance.{sqDist}
-use Rattle.reduce.specs.Radial.{radial, radialFrom, radialEnd}
+use Rattle.reduce.specs.Radial.{sqDist, radial, radialFrom, radialEnd}
 use Rattle.reduce.proofs.radial.Far.{radial-shorter, radial-whole, radial-first, far, near, none-left}
 use Rattle.reduce.proofs.radial.keep_far.Statement.{statement}
 use Rattle.reduce.proofs.radial.keep_far.Tie as tie
@@ -48,10 +44,8 @@ module _ (list : List ℤ) (good : badPoints list ≡ false) where
     limit-y = rw e (coordinates-fit list good (k * 2 + 1))
 
   -- up to two points are copied
-  copied : (tolerance : Float) (old last : List ℤ) (r : Answer) → record { answer = r; out = last } ≡ keptAllOf list old → count list ≤ 2 →
-      length list ≤ length old → Handed (radial tolerance (points list)) old (count list) last
-  copied tolerance old last r d h fits =
-      let e : last ≡ over list old = ap (λ (k : Points). k .out) (d ∙ all-handed list old fits) in
+  copied : (tolerance : Float) (old last : List ℤ) → last ≡ over list old → count list ≤ 2 → Handed (radial tolerance (points list)) old (count list) last
+  copied tolerance old last e h =
       rw (radial-whole tolerance (points list) (rw (length-points list) h))
       (record { counted = sym (length-points list); written = e ∙ ap (λ (l : List ℤ). over l old) (sym (flat-points list (whole-points inRange list good))) })
 
@@ -127,7 +121,7 @@ keep-far-spec =
     (tie.spec
     Inv-loop
     μ-loop
-    (λ c κs. tt)  -- keep-all-requires
+    (λ c κs. search needs)  -- keep-all-requires
     (λ c. search needs)  -- same-length
     returns
     (λ c κs. tt)  -- point-at-requires

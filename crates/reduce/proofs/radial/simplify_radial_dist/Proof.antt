@@ -1,4 +1,4 @@
--- `reduce::simplify_radial_dist` meets its contract: at each return the tests on the way pick a line of `radialOf`. Assumes nothing.
+-- `simplify_radial_dist` meets its contract: at each return the tests on the way pick a line of `radialOf`. Assumes nothing.
 use Prim.Native.Nat.{ℕ, _/_, _<_, _≤_}
 use mathlib.Core.Bool.{Bool, true, false}
 use mathlib.Core.List.{List}
@@ -13,8 +13,7 @@ use Rattle.point.specs.declared.refusal.Answer.the-variants.{Done, Refused}
 use Rattle.point.specs.declared.refusal.Refusal.the-variants.{TooMany, BadPoint, BadTolerance, NoRoom}
 use Rattle.point.specs.inside.Written.{Handed}
 use Rattle.point.proofs.Room.{too-short, long-enough, not-bad, list-fits}
-use Rattle.reduce.specs.Radial.{radial}
-use Rattle.reduce.specs.Reduce.{radialOf}
+use Rattle.reduce.specs.Radial.{radial, radialOf}
 use Rattle.reduce.proofs.radial.simplify_radial_dist.Statement.{statement}
 use Rattle.reduce.proofs.radial.simplify_radial_dist.Tie as tie
 

@@ -1,4 +1,4 @@
--- `reduce::squares` meets its contract: within the limits the sum of the squares fits. Assumes nothing.
+-- `squares` meets its contract: within the limits the sum of the squares fits. Assumes nothing.
 use Prim.Native.Nat.{_≤_}
 use mir.Facts.{toZ-ofZ}
 use mir.Syntax.{w32}

@@ -1,4 +1,4 @@
--- `reduce::with_last` meets its contract: the end of the radial list is written, if there is one. Assumes nothing.
+-- `with_last` meets its contract: the end of the radial list is written, if there is one. Assumes nothing.
 use Prim.Native.Nat.{ℕ, _+_, _*_, _<_, _≤_}
 use mathlib.Core.Bool.{Bool, true, false}
 use mathlib.Core.List.{List, [], _∷_}
@@ -7,11 +7,11 @@ use native.Mathlib.Omega.{arith}
 use lib.IntN.{ℤ}
 use lib.ListN.{length, set}
 use borrow.Author.Needs.{needs}
-use Rattle.point.specs.Points.{flat}
+use Rattle.point.specs.Points.{flat, samePoint}
 use Rattle.point.specs.declared.PointI32.{PointI32}
 use Rattle.point.specs.inside.Written.{onto}
 use Rattle.point.proofs.Written.{onto-nil, onto-two}
-use Rattle.reduce.specs.Radial.{samePoint, radialEnd}
+use Rattle.reduce.specs.Radial.{radialEnd}
 use Rattle.reduce.proofs.radial.with_last.Statement.{statement}
 use Rattle.reduce.proofs.radial.with_last.Tie as tie
 

@@ -1,30 +1,23 @@
--- `zooms::zoom` meets its contract: at each return the tests on the way pick a line of `zoomOf`. Assumes nothing.
+-- `zoom` meets its contract: at each return the tests on the way pick a line of `zoomOf`. Assumes nothing.
+use Prim.Native.Nat.{ℕ, _/_, _<_, _≤_}
 use mathlib.Core.Bool.{Bool, true, false}
 use mathlib.Core.List.{List}
-use mathlib.Core.Option.{none as nothing}
-use mathlib.Core.Path.{_≡_, refl, _∙_}
+use mathlib.Core.Path.{_≡_}
 use lib.Ieee.{Float}
 use lib.IntN.{ℤ}
 use lib.ListN.{length}
 use borrow.Author.Needs.{needs}
 use borrow.Author.Tests.{eq-eqb, ne-eqb}
-use Rattle.point.specs.Limits.{tooMany, badPoints, badSqTolerance}
-use Rattle.point.specs.Refusals.{refuse_when_or_}
-use Rattle.point.specs.declared.refusal.Answer.{Answer}
-use Rattle.point.specs.declared.refusal.Answer.the-variants.{Refused}
+use Rattle.point.specs.Limits.{tooMany, badPoints, badSqTolerance, placesFor}
+use Rattle.point.specs.Points.{points, count}
+use Rattle.point.specs.declared.refusal.Answer.the-variants.{Done, Refused}
 use Rattle.point.specs.declared.refusal.Refusal.the-variants.{TooMany, BadPoint, TooFew, BadTolerance, NoRoom}
-use Rattle.point.specs.Points.{count}
-use Rattle.reduce.specs.Keep.{shortFor, aboveOutcome, keptAboveOf}
-use Rattle.reduce.specs.Zoom.{zoomOutcome, zoomOf}
+use Rattle.point.specs.inside.Written.{Handed}
+use Rattle.point.proofs.Room.{too-short, long-enough, some-points, places-fit}
+use Rattle.reduce.specs.Kept.{kept}
+use Rattle.reduce.specs.Zoom.{marksBy, zoomOf}
 use Rattle.reduce.proofs.zooming.zoom.Statement.{statement}
 use Rattle.reduce.proofs.zooming.zoom.Tie as tie
-
--- the room is judged where the points are kept
-by-room : (list : List ℤ) (numbers : List Float) (tolerance : Float) (out : List ℤ) (short : Bool) →
-    aboveOutcome (refuse NoRoom when short or nothing) list numbers tolerance out ≡ zoomOutcome (refuse NoRoom when short or nothing) list numbers tolerance out
-unfolding aboveOutcome zoomOutcome
-by-room list numbers tolerance out true = refl
-by-room list numbers tolerance out false = refl
 
 module _ (list : List ℤ) (numbers : List Float) (tolerance : Float) (out : List ℤ) (many : Bool) (m : many ≡ tooMany (length list)) where
   too-many : many ≡ true → record { answer = Refused TooMany; out = out } ≡ zoomOf list numbers tolerance out
@@ -51,16 +44,18 @@ module _ (list : List ℤ) (numbers : List Float) (tolerance : Float) (out : Lis
           unfolding zoomOf
           bad-tolerance g = rw (← m, e, ← b, f, eq-eqb _ _ each, ne-eqb _ _ some, ← w, g)
 
-          done : wrong ≡ false → (r : Answer) (last : List ℤ) → record { answer = r; out = last } ≡ keptAboveOf list numbers tolerance out →
-              record { answer = r; out = last } ≡ zoomOf list numbers tolerance out
-          unfolding zoomOf keptAboveOf
-          done g r last d =
-              let h : record { answer = r; out = last } ≡ aboveOutcome (refuse NoRoom when shortFor (count list) out or nothing) list numbers tolerance out
-              = rw (eq-eqb _ _ each, ne-eqb _ _ some) at d in
-              rw (← m, e, ← b, f, eq-eqb _ _ each, ne-eqb _ _ some, ← w, g) (h ∙ by-room list numbers tolerance out (shortFor (count list) out))
+          module _ (g : wrong ≡ false) (places : ℕ) (p : places ≡ placesFor (count list)) where
+            no-room : length out / 2 < places → record { answer = Refused NoRoom; out = out } ≡ zoomOf list numbers tolerance out
+            unfolding zoomOf
+            no-room h = rw (← m, e, ← b, f, eq-eqb _ _ each, ne-eqb _ _ some, ← w, g, ← p, too-short _ _ h)
 
-returns-6 : tie.Need-returns-6
-returns-6 c = search done
+            done : places ≤ length out / 2 → (n : ℕ) (last : List ℤ) → Handed (kept (marksBy tolerance numbers) (points list)) out n last →
+                record { answer = Done n; out = last } ≡ zoomOf list numbers tolerance out
+            unfolding zoomOf
+            done h n last d = rw (← m, e, ← b, f, eq-eqb _ _ each, ne-eqb _ _ some, ← w, g, ← p, long-enough _ _ h, d .counted, d .written)
+
+returns-7 : tie.Need-returns-7
+returns-7 c = search done
 
 pub zoom-spec : {M : Type 1} → statement M
 zoom-spec =
@@ -74,6 +69,8 @@ zoom-spec =
     (λ c. search none)  -- returns-4
     (λ c κs. tt)  -- bad-sq-tolerance-requires
     (λ c. search bad-tolerance)  -- returns-5
-    (λ c κs. tt)  -- keep-above-requires
+    (λ c κs. tt)  -- places-for-requires
+    (λ c. search no-room)  -- returns-6
+    (λ c κs. (search some-points, search needs, search places-fit))  -- keep-above-requires
     (λ c. search needs)  -- same-length
-    returns-6)
+    returns-7)

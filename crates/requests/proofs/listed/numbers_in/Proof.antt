@@ -1,4 +1,4 @@
--- `requests::numbers_in` meets its contract. Assumes nothing.
+-- `numbers_in` meets its contract. Assumes nothing.
 use borrow.Author.Needs.{needs}
 use Rattle.requests.proofs.Points.{at-least, has-room, no-numbers, a-numbers}
 use Rattle.requests.proofs.listed.numbers_in.Statement.{statement}

@@ -1,4 +1,4 @@
--- `requests::reduce_in` meets its contract. Assumes nothing.
+-- `reduce_in` meets its contract. Assumes nothing.
 use borrow.Author.Needs.{needs}
 use Rattle.requests.proofs.Points.{at-least, has-room, third, no-reduce, a-reduce}
 use Rattle.requests.proofs.listed.reduce_in.Statement.{statement}

@@ -1,4 +1,4 @@
--- `requests::simplify_in` meets its contract. Assumes nothing.
+-- `simplify_in` meets its contract. Assumes nothing.
 use borrow.Author.Needs.{needs}
 use Rattle.requests.proofs.Points.{at-least, has-room, second, undirected, no-simplify, a-simplify}
 use Rattle.requests.proofs.listed.simplify_in.Statement.{statement}

@@ -1,4 +1,4 @@
--- `requests::walk_in` meets its contract. Assumes nothing.
+-- `walk_in` meets its contract. Assumes nothing.
 use borrow.Author.Needs.{needs}
 use Rattle.requests.proofs.ByKind.{no-walk, ten, at-1, a-walk}
 use Rattle.requests.proofs.walking.walk_in.Statement.{statement}

@@ -1,4 +1,4 @@
--- `sandline::put_line` meets its contract: no answer is longer than the room. Assumes nothing.
+-- `put_line` meets its contract: no answer is longer than the room. Assumes nothing.
 use Prim.Native.Nat.{ℕ, _+_, _≤_}
 use mathlib.Core.List.{List, [], _∷_}
 use mathlib.Core.Path.{_≡_}
@@ -14,8 +14,8 @@ use Rattle.sandline.proofs.step.put_line.Statement.{statement}
 use Rattle.sandline.proofs.step.put_line.Tie as tie
 
 whole : (text out mid last : List ℕ) (at m r : ℕ) → at + 32769 ≤ length out →
-    record { next = m; out = mid } ≡ put (answerTo text) out at → record { next = r; out = last } ≡ put (10 ∷ []) mid m →
-    record { next = r; out = last } ≡ put (line (answerTo text)) out at
+    record { answer = m; out = mid } ≡ put (answerTo text) out at → record { answer = r; out = last } ≡ put (10 ∷ []) mid m →
+    record { answer = r; out = last } ≡ put (line (answerTo text)) out at
 whole text out mid last at m r h e f =
     put-then (answerTo text) (10 ∷ []) out mid last at m r (omega (arith, length-append (answerTo text) (10 ∷ []), answer-short text)) e f
 

@@ -1,4 +1,4 @@
--- `penalties::past_delta` meets its contract. The loop's invariant: whether one of the penalties from `k` on reaches the tolerance is what the
+-- `past_delta` meets its contract. The loop's invariant: whether one of the penalties from `k` on reaches the tolerance is what the
 -- greatest of all says. Assumes nothing.
 use Prim.Native.Nat.{ℕ, suc, _+_, _-_, _<_, _≤_}
 use mathlib.Core.Bool.{Bool, true, false}
@@ -14,7 +14,7 @@ use Rattle.laws.proofs.Order.{at-least-zero}
 use Rattle.point.specs.Points.{points, count, pointAt}
 use Rattle.point.specs.declared.PointI32.{PointI32}
 use Rattle.point.proofs.Flat.{points-at}
-use Rattle.point.proofs.Within.{limit-x, limit-y}
+use Rattle.point.proofs.Near.{limit-x, limit-y}
 use Rattle.simplify.specs.Penalties.{penalty, at, pastDelta, tooCostly}
 use Rattle.simplify.specs.inside.Costs.{reaches}
 use Rattle.simplify.proofs.Reached.{someReaches, reached-by-one, hit, passed, none-left}

@@ -1,4 +1,4 @@
--- `penalties::reaches` meets its contract. Its tolerance is that of the definition: antt computes both. Assumes nothing.
+-- `reaches` meets its contract. Its tolerance is that of the definition: antt computes both. Assumes nothing.
 use mathlib.Core.Path.{refl}
 use lib.Ieee.{ofBits, ofInt}
 use Rattle.simplify.specs.inside.Costs.{reaches}

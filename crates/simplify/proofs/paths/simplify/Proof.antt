@@ -1,4 +1,4 @@
--- `simplify::simplify` meets its contract: a refusal is handed on, and else the second pass is handed what the first one left. Assumes
+-- `simplify` meets its contract: a refusal is handed on, and else the second pass is handed what the first one left. Assumes
 -- nothing.
 use Prim.Native.Nat.{ℕ, _*_, _-_, _≤_}
 use mathlib.Core.Bool.{Bool}

@@ -1,4 +1,4 @@
--- `penalties::keep_costly` meets its contract: up to two points by their number, and more by `keep_many`. Assumes nothing.
+-- `keep_costly` meets its contract: up to two points by their number, and more by `keep_many`. Assumes nothing.
 use Prim.Native.Nat.{_*_, _≤_}
 use mathlib.Core.List.{List, [], _∷_}
 use mathlib.Core.Path.{_≡_, sym, ap, _∙_}

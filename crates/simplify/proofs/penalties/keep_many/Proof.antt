@@ -1,4 +1,4 @@
--- `penalties::keep_many` meets its contract. The loop's invariant: what is kept of the positions from `i` on, after `last`, completes what
+-- `keep_many` meets its contract. The loop's invariant: what is kept of the positions from `i` on, after `last`, completes what
 -- is kept of all. Assumes nothing.
 use Prim.Native.Nat.{ℕ, _+_, _-_, _*_, _<_, _≤_}
 use mathlib.Core.Bool.{Bool, true, false}

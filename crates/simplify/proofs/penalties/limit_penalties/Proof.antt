@@ -1,4 +1,4 @@
--- `penalties::limit_penalties` meets its contract: a refusal is handed on, and else the points that are left are. Assumes nothing.
+-- `limit_penalties` meets its contract: a refusal is handed on, and else the points that are left are. Assumes nothing.
 use Prim.Native.Nat.{ℕ, _*_, _≤_}
 use mathlib.Core.List.{List}
 use mathlib.Core.Path.{_≡_}

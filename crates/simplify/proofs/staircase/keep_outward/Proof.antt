@@ -1,4 +1,4 @@
--- `staircase::keep_outward` meets its contract. The loop's invariant: what stays of the points from `i` on completes what stays of all; and
+-- `keep_outward` meets its contract. The loop's invariant: what stays of the points from `i` on completes what stays of all; and
 -- `before` is the point before them in the list. Assumes nothing.
 use Prim.Native.Nat.{ℕ, _+_, _-_, _*_, _<_, _≤_}
 use mathlib.Core.Bool.{Bool, true, false}
@@ -13,7 +13,7 @@ use Rattle.point.specs.declared.PointI32.{PointI32}
 use Rattle.point.specs.inside.Written.{Handed, Left}
 use Rattle.point.proofs.Flat.{length-points, points-at}
 use Rattle.point.proofs.Written.{begun, begun-with, from-before, passed, taken, ended}
-use Rattle.point.proofs.Within.{limit-x, limit-y}
+use Rattle.point.proofs.Near.{limit-x, limit-y}
 use Rattle.simplify.specs.Staircase.{stays, staircaseFrom, removeStaircase}
 use Rattle.simplify.proofs.Outward.{staircase-shorter, staircase-none, staircase-first, outward, inward, last-stays}
 use Rattle.simplify.proofs.staircase.keep_outward.Statement.{statement}

@@ -1,4 +1,4 @@
--- `staircase::remove_staircase` meets its contract: a refusal is handed on, and else the points that are left are. Assumes nothing.
+-- `remove_staircase` meets its contract: a refusal is handed on, and else the points that are left are. Assumes nothing.
 use Prim.Native.Nat.{ℕ}
 use mathlib.Core.Bool.{Bool}
 use mathlib.Core.List.{List}

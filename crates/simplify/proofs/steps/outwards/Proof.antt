@@ -1,4 +1,4 @@
--- `staircase::outwards` meets its contract: a test of the area's sign for each way round. Assumes nothing.
+-- `outwards` meets its contract: a test of the area's sign for each way round. Assumes nothing.
 use Prim.Native.Nat.{ℕ, zero, suc}
 use mathlib.Core.Bool.{Bool, true, false}
 use mathlib.Core.Path.{_≡_, refl}

@@ -1,4 +1,4 @@
--- `staircase::segment_length` meets its contract: the sizes of the two differences. Assumes nothing.
+-- `segment_length` meets its contract: the sizes of the two differences. Assumes nothing.
 use Prim.Native.Nat.{ℕ, _+_, _≤_}
 use mathlib.Core.Path.{_≡_}
 use mir.Syntax.{w32}
@@ -6,7 +6,7 @@ use mir.Val.{ofZ, toZ}
 use lib.IntN.{ℤ, natAbs, _-ℤ_}
 use borrow.Author.Needs.{needs}
 use Rattle.point.specs.declared.PointI32.{PointI32}
-use Rattle.util.specs.Near.{Near}
+use Rattle.point.specs.inside.Near.{Near}
 use Rattle.util.proofs.ByBits.{by-bits, x-by-bits, y-by-bits}
 use Rattle.simplify.specs.Staircase.{segmentLength}
 use Rattle.simplify.proofs.steps.segment_length.Statement.{statement}

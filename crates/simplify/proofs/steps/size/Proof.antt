@@ -1,4 +1,4 @@
--- `staircase::size` meets its contract: the opposite of a number below 0 is not negative. Assumes nothing.
+-- `size` meets its contract: the opposite of a number below 0 is not negative. Assumes nothing.
 use Prim.Native.Nat.{ℕ, _≤_}
 use mathlib.Core.Bool.{true, false}
 use mathlib.Core.Path.{_≡_}

@@ -1,4 +1,4 @@
--- `staircase::stays` meets its contract: beside a step of one pixel the turn decides. Assumes nothing.
+-- `stays` meets its contract: beside a step of one pixel the turn decides. Assumes nothing.
 use Prim.Native.Nat.{ℕ}
 use mathlib.Core.Bool.{Bool, true}
 use mathlib.Core.Path.{_≡_}

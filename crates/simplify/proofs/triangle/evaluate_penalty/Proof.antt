@@ -1,4 +1,4 @@
--- `penalties::evaluate_penalty` meets its contract: Heron's formula of the three sides. Assumes nothing.
+-- `evaluate_penalty` meets its contract: Heron's formula of the three sides. Assumes nothing.
 use mathlib.Core.Path.{_≡_, ap, _∙_}
 use lib.Ieee.{Float}
 use borrow.Author.Needs.{needs}

@@ -1,4 +1,4 @@
--- `penalties::heron` meets its contract: its operations are those of the definition. Assumes nothing.
+-- `heron` meets its contract: its operations are those of the definition. Assumes nothing.
 use mathlib.Core.Path.{ap}
 use lib.Ieee.{Float, binary64, ofBits, ofInt, mul, div}
 use borrow.Author.Needs.{needs}

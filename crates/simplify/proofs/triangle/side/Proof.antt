@@ -1,4 +1,4 @@
--- `penalties::side` meets its contract: the root of the sum of two squares. Assumes nothing.
+-- `side` meets its contract: the root of the sum of two squares. Assumes nothing.
 use Prim.Native.Nat.{_≤_}
 use mathlib.Core.Path.{_≡_}
 use mir.Syntax.{w32}
@@ -8,7 +8,7 @@ use lib.Ieee.{Float, binary64, add}
 use borrow.Author.Needs.{needs}
 use Rattle.point.specs.declared.PointI32.{PointI32}
 use Rattle.sqrt.specs.Root.{rootOf}
-use Rattle.util.specs.Near.{Near}
+use Rattle.point.specs.inside.Near.{Near}
 use Rattle.util.proofs.ByBits.{by-bits, x-by-bits, y-by-bits}
 use Rattle.simplify.specs.Penalties.{sq, side}
 use Rattle.simplify.proofs.triangle.side.Statement.{statement}

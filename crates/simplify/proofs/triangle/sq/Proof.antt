@@ -1,4 +1,4 @@
--- `penalties::sq` meets its contract: within the limits the square fits. Assumes nothing.
+-- `sq` meets its contract: within the limits the square fits. Assumes nothing.
 use mir.Facts.{toZ-ofZ}
 use mir.Syntax.{w32}
 use mir.Val.{SFits}

@@ -1,4 +1,4 @@
--- `segments::are` meets its contract: its two tests, joined. Assumes nothing.
+-- `are` meets its contract: its two tests, joined. Assumes nothing.
 use Prim.Native.Nat.{ℕ}
 use mathlib.Core.Bool.{_&&_}
 use mathlib.Core.Path.{_≡_}

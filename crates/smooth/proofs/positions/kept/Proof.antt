@@ -1,4 +1,4 @@
--- `segments::kept` meets its contract. Assumes nothing.
+-- `kept` meets its contract. Assumes nothing.
 use Prim.Native.Nat.{ℕ}
 use mathlib.Core.List.{List}
 use mathlib.Core.Path.{_≡_}
@@ -6,15 +6,15 @@ use lib.ListN.{getD}
 use borrow.Author.Needs.{needs}
 use borrow.Author.Tests.{eq-eqb, ne-eqb}
 use Rattle.laws.specs.If.{if_then_else_}
-use Rattle.smooth.specs.Segments.{isCorner}
+use Rattle.smooth.specs.Segments.{hasFlag}
 use Rattle.smooth.proofs.positions.kept.Statement.{statement}
 use Rattle.smooth.proofs.positions.kept.Tie as tie
 
 module _ (corners : List ℕ) (at neighbour : ℕ) where
-  corner : getD corners at 0 ≡ 1 → at ≡ (if isCorner corners at then at else neighbour)
+  corner : getD corners at 0 ≡ 1 → at ≡ (if hasFlag corners at then at else neighbour)
   corner e = rw (eq-eqb (getD corners at 0) 1 e)
 
-  none : (getD corners at 0 ≡ 1 → ⊥) → neighbour ≡ (if isCorner corners at then at else neighbour)
+  none : (getD corners at 0 ≡ 1 → ⊥) → neighbour ≡ (if hasFlag corners at then at else neighbour)
   none n = rw (ne-eqb (getD corners at 0) 1 n)
 
 ruleset laws = (corner, none, needs)

@@ -1,4 +1,4 @@
--- `segments::next_of` meets its contract. Assumes nothing.
+-- `next_of` meets its contract. Assumes nothing.
 use Prim.Native.Nat.{ℕ, suc, _+_, _<_}
 use mathlib.Core.Bool.{Bool, true, false}
 use mathlib.Core.Path.{_≡_}

@@ -1,4 +1,4 @@
--- `segments::place_at` meets its contract: both values are there. Assumes nothing.
+-- `place_at` meets its contract: both values are there. Assumes nothing.
 use Prim.Native.Nat.{ℕ, _+_, _*_, _/_, _<_}
 use mathlib.Core.List.{List}
 use mathlib.Core.Path.{_≡_}

@@ -1,4 +1,4 @@
--- `segments::prev_of` meets its contract. Assumes nothing.
+-- `prev_of` meets its contract. Assumes nothing.
 use Prim.Native.Nat.{ℕ, _-_, _<_}
 use mathlib.Core.Bool.{Bool, true, false}
 use mathlib.Core.Path.{_≡_}

@@ -1,20 +1,19 @@
--- `round_refusals::judge_rest` meets its contract: each refusal in its order. Assumes nothing.
-use Prim.Native.Nat.{ℕ, _*_}
-use mathlib.Core.Bool.{Bool, true, false, not, _||_}
+-- `judge_rest` meets its contract: each refusal in its order. Assumes nothing.
+use Prim.Native.Nat.{ℕ}
+use mathlib.Core.Bool.{Bool, true, false}
 use mathlib.Core.List.{List}
 use mathlib.Core.Path.{_≡_}
-use lib.Dec.{ltb, eqb}
-use lib.ListN.{length}
 use borrow.Author.Needs.{needs}
-use Rattle.point.specs.Limits.{every}
 use Rattle.point.specs.declared.refusal.Refusal.the-variants.{BadFlags, BadSettings, NoRoom}
 use Rattle.smooth.specs.declared.scheme.Settings.{Settings}
-use Rattle.smooth.specs.declared.refusals.Verdict.the-variants.{Fine, Refused}
-use Rattle.smooth.specs.Judged.{badSettings, placesFor, isFlag, restRefusal, verdict}
+use Rattle.point.specs.declared.refusal.Verdict.the-variants.{Fine, Refused}
+use Rattle.point.specs.Outcomes.{verdict}
+use Rattle.smooth.specs.Calls.{badFlags, badSettings, tooShort}
+use Rattle.smooth.specs.inside.Parts.{restRefusal}
 use Rattle.smooth.proofs.refusals.judge_rest.Statement.{statement}
 use Rattle.smooth.proofs.refusals.judge_rest.Tie as tie
 
-module _ (corners : List ℕ) (settings : Settings) (n m room flags : ℕ) (bf : Bool) (sf : bf ≡ (not (eqb (length corners) m) || not (every isFlag corners))) where
+module _ (corners : List ℕ) (settings : Settings) (n m room flags : ℕ) (bf : Bool) (sf : bf ≡ badFlags m corners) where
   bad-flags : bf ≡ true → Refused BadFlags ≡ verdict (restRefusal corners settings n m room flags)
   bad-flags e = rw (← sf, e)
 
@@ -22,7 +21,7 @@ module _ (corners : List ℕ) (settings : Settings) (n m room flags : ℕ) (bf :
     bad-settings : bs ≡ true → Refused BadSettings ≡ verdict (restRefusal corners settings n m room flags)
     bad-settings f = rw (← sf, e, ← sb, f)
 
-    module _ (f : bs ≡ false) (short : Bool) (ss : short ≡ (ltb room (placesFor n * 2) || ltb flags (placesFor n))) where
+    module _ (f : bs ≡ false) (short : Bool) (ss : short ≡ tooShort n room flags) where
       no-room : short ≡ true → Refused NoRoom ≡ verdict (restRefusal corners settings n m room flags)
       no-room g = rw (← sf, e, ← sb, f, ← ss, g)
 

@@ -1,4 +1,4 @@
--- `scheme::distance` meets its contract. Assumes nothing.
+-- `distance` meets its contract. Assumes nothing.
 use borrow.Author.Needs.{needs}
 use Rattle.smooth.specs.Scheme.{distance}
 use Rattle.smooth.proofs.scheme.distance.Statement.{statement}

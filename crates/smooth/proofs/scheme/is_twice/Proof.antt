@@ -1,4 +1,4 @@
--- `scheme::is_twice` meets its contract. Its literal is that of the definition: antt computes both. Assumes nothing.
+-- `is_twice` meets its contract. Its literal is that of the definition: antt computes both. Assumes nothing.
 use mathlib.Core.Path.{refl}
 use lib.Ieee.{ofBits, ofInt}
 use Rattle.smooth.proofs.scheme.is_twice.Statement.{statement}

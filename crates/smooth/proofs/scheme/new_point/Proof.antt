@@ -1,4 +1,4 @@
--- `scheme::new_point` meets its contract: the same operations. Assumes nothing.
+-- `new_point` meets its contract: the same operations. Assumes nothing.
 use mathlib.Core.Bool.{true, false}
 use mathlib.Core.Path.{_≡_}
 use lib.Ieee.{Float, binary64, sub, div, lt}

@@ -1,4 +1,4 @@
--- `segments::is_skipped` meets its contract. Assumes nothing.
+-- `is_skipped` meets its contract. Assumes nothing.
 use Prim.Native.Nat.{ℕ}
 use mathlib.Core.Bool.{Bool}
 use mathlib.Core.List.{List}
@@ -7,13 +7,13 @@ use lib.Ieee.{Float}
 use borrow.Author.Needs.{needs}
 use Rattle.point.specs.declared.PointF64.{PointF64}
 use Rattle.smooth.specs.Places.{placeAt}
-use Rattle.smooth.specs.Scheme.{skippedBy}
+use Rattle.smooth.specs.Scheme.{skipped}
 use Rattle.smooth.proofs.segment.is_skipped.Statement.{statement}
 use Rattle.smooth.proofs.segment.is_skipped.Tie as tie
 
-judged : (list : List Float) (length : Float) (i j prev next : ℕ) (p q a b : PointF64) (r : Bool) → r ≡ skippedBy p q a b length →
+judged : (list : List Float) (length : Float) (i j prev next : ℕ) (p q a b : PointF64) (r : Bool) → r ≡ skipped p q a b length →
     p ≡ placeAt list i → q ≡ placeAt list j → a ≡ placeAt list prev → b ≡ placeAt list next →
-    r ≡ skippedBy (placeAt list i) (placeAt list j) (placeAt list prev) (placeAt list next) length
+    r ≡ skipped (placeAt list i) (placeAt list j) (placeAt list prev) (placeAt list next) length
 judged list length i j prev next p q a b r e ep eq ea eb = e ∙ (rw (ep, eq, ea, eb))
 
 ruleset laws = (judged, needs)

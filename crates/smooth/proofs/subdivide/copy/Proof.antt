@@ -1,4 +1,4 @@
--- `smooth::copy` meets its contract: both values are there. Assumes nothing.
+-- `copy` meets its contract: both values are there. Assumes nothing.
 use Prim.Native.Nat.{ℕ, _+_, _*_, _/_, _<_}
 use mathlib.Core.List.{List}
 use mathlib.Core.Path.{_≡_}

@@ -1,4 +1,4 @@
--- `smooth::put` meets its contract. Assumes nothing.
+-- `put` meets its contract. Assumes nothing.
 use borrow.Author.Needs.{needs}
 use Rattle.smooth.proofs.Buffers.{second-place}
 use Rattle.smooth.proofs.subdivide.put.Statement.{statement}

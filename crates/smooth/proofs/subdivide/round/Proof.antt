@@ -1,4 +1,4 @@
--- `smooth::round` meets its contract. The loop's invariant: what is written is the round of the first `i` points. Assumes nothing.
+-- `round` meets its contract. The loop's invariant: what is written is the round of the first `i` points. Assumes nothing.
 use Prim.Native.Nat.{ℕ, _+_, _-_, _*_, _/_, _^_, _<_, _≤_}
 use mathlib.Core.Bool.{Bool, true, false, _&&_}
 use mathlib.Core.List.{List}
@@ -12,8 +12,8 @@ use lib.ListN.{length}
 use borrow.Author.Needs.{needs}
 use borrow.Author.Tests.{ltb-false}
 use Rattle.laws.proofs.Joined.{and-second}
-use Rattle.smooth.specs.Places.{count}
-use Rattle.smooth.specs.Judged.{roomFor}
+use Rattle.point.specs.Points.{count}
+use Rattle.smooth.specs.inside.Parts.{roomFor}
 use Rattle.smooth.proofs.SoFar.{SoFar, begun, few, turned, ended, last-fits, closed-again}
 use Rattle.smooth.proofs.subdivide.round.Statement.{statement}
 use Rattle.smooth.proofs.subdivide.round.Tie as tie
@@ -52,7 +52,6 @@ round-spec =
     (λ c. search laws)  -- loop-holds
     (λ c κs. search laws)  -- turn-requires
     (λ c. search laws)  -- add-i
-    (λ c κs. search laws)  -- both-requires
     (λ c. search laws)  -- loop-less
     (λ c. search laws)  -- loop-again
     (λ c κs. search laws)  -- copy-requires

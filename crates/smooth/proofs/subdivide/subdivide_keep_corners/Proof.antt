@@ -1,4 +1,4 @@
--- `smooth::subdivide_keep_corners` meets its contract: a refusal is handed on, and else the round. Assumes nothing.
+-- `subdivide_keep_corners` meets its contract: a refusal is handed on, and else the round. Assumes nothing.
 use borrow.Author.Needs.{needs}
 use Rattle.smooth.proofs.Refused.{not-few, so-many, at-most, enough, enough-flags}
 use Rattle.smooth.proofs.Verdicts.{refused-outcome, done-outcome}

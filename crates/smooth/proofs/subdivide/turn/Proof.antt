@@ -1,10 +1,8 @@
--- `smooth::turn` meets its contract: by whether a point enters. Assumes nothing.
+-- `turn` meets its contract: by whether a point enters. Assumes nothing.
 use Prim.Native.Nat.{ℕ, _+_, _*_, _/_, _<_, _≤_}
 use mathlib.Core.Bool.{Bool, true}
 use mathlib.Core.List.{List}
-use mathlib.Core.Option.{Option, some, none}
-use mathlib.Core.Path.{_≡_, refl, sym, _∙_}
-use native.Mathlib.Omega.{arith}
+use mathlib.Core.Path.{_≡_, sym, _∙_}
 use lib.Ieee.{Float}
 use lib.ListN.{length, set, getD, length-set}
 use borrow.Author.Needs.{needs}
@@ -12,10 +10,9 @@ use Rattle.point.specs.declared.PointF64.{PointF64}
 use Rattle.smooth.specs.declared.scheme.Settings.{Settings}
 use Rattle.smooth.specs.declared.scheme.Entering.{Entering}
 use Rattle.smooth.specs.declared.scheme.Entering.the-variants.{Nothing, Point}
-use Rattle.smooth.specs.Places.{count, placeAt}
-use Rattle.smooth.specs.Segments.{settled, after, entered, enteringBehind, enteredBehind}
-use Rattle.smooth.proofs.Behind.{behind-there, behind-entered}
-use Rattle.smooth.specs.Judged.{roomFor}
+use Rattle.smooth.specs.Places.{placeAt}
+use Rattle.smooth.specs.Segments.{enteringBehind}
+use Rattle.smooth.specs.inside.Parts.{roomFor}
 use Rattle.smooth.specs.inside.Parts.{turnPoints, turnFlags, turnSettled, putPoints, putFlags, Turned}
 use Rattle.smooth.proofs.Turns.{first-room, second-room}
 use Rattle.smooth.proofs.subdivide.turn.Statement.{statement}
@@ -25,41 +22,18 @@ module _ (list : List Float) (corners : List ℕ) (settings : Settings) (closed 
   abbrev m : ℕ
   m = length corners
 
-  module _ (j : ℕ) where
-    none-of : (o : Option PointF64) → entered list settings i j o ≡ Nothing → o ≡ none
-    unfolding entered
-    none-of none e = refl
-    none-of (some p) e = let z : _≡_ {A = ℕ} 0 1 = cc in absurd (omega arith)
-
-    some-of : (o : Option PointF64) (p : PointF64) (s : Bool) → entered list settings i j o ≡ Point p s → (o ≡ some p) × (s ≡ settled list settings i j o)
-    unfolding entered
-    some-of none p s e = let z : _≡_ {A = ℕ} 0 1 = cc in absurd (omega arith)
-    some-of (some q) p s e = (cc, cc)
-
-  module _ (z : Entering) (says : z ≡ enteredBehind list corners settings closed i) where
-    module _ (k : ℕ) (out out′ : List Float) (flags : List ℕ) (eo : out′ ≡ set (set out (k * 2) (placeAt list i .x)) (k * 2 + 1) (placeAt list i .y)) where
-      nothing : z ≡ Nothing → i < m → m ≤ count list →
-          Turned list corners settings closed m i k out flags (record { k = k + 1; settled = true }) out′ (set flags k (getD corners i 0))
-      unfolding turnPoints turnFlags turnSettled settled putPoints putFlags
-      nothing e h there =
-          let is-none : enteringBehind list corners settings closed m i ≡ none
-          = none-of (after closed m i) (enteringBehind list corners settings closed m i) (sym (behind-there list corners settings closed m i refl h there) ∙ sym says ∙ e) in
-          record {
-            counted = rw is-none;
-            judged = rw is-none;
-            points = rw (is-none, eo);
-            flagged = rw is-none;
-          }
+  module _ (z : Entering) (says : z ≡ enteringBehind list corners settings closed m i) where
+    nothing : z ≡ Nothing → (k : ℕ) (out out′ : List Float) (flags : List ℕ) →
+        out′ ≡ set (set out (k * 2) (placeAt list i .x)) (k * 2 + 1) (placeAt list i .y) →
+        Turned list corners settings closed m i k out flags (record { k = k + 1; settled = true }) out′ (set flags k (getD corners i 0))
+    unfolding turnPoints turnFlags turnSettled putPoints putFlags
+    nothing e k out out′ flags eo =
+        let is-none : enteringBehind list corners settings closed m i ≡ Nothing = sym says ∙ e in
+        record { counted = rw is-none; judged = rw is-none; points = rw (is-none, eo); flagged = rw is-none }
 
     module _ (p : PointF64) (s : Bool) (e : z ≡ Point p s) where
-      point-is : entered list settings i (after closed m i) (enteringBehind list corners settings closed m i) ≡ Point p s
-      point-is = behind-entered list corners settings closed i p s (sym says ∙ e)
-
-      is-some : enteringBehind list corners settings closed m i ≡ some p
-      is-some = some-of (after closed m i) (enteringBehind list corners settings closed m i) p s point-is .0
-
-      is-settled : s ≡ settled list settings i (after closed m i) (enteringBehind list corners settings closed m i)
-      is-settled = some-of (after closed m i) (enteringBehind list corners settings closed m i) p s point-is .1
+      is-some : enteringBehind list corners settings closed m i ≡ Point p s
+      is-some = sym says ∙ e
 
       entering : (k : ℕ) (out out′ : List Float) (flags : List ℕ) → out′ ≡ set (set out (k * 2) (placeAt list i .x)) (k * 2 + 1) (placeAt list i .y) →
           (out″ : List Float) → out″ ≡ set (set out′ ((k + 1) * 2) (p .x)) ((k + 1) * 2 + 1) (p .y) →
@@ -67,19 +41,14 @@ module _ (list : List Float) (corners : List ℕ) (settings : Settings) (closed 
           Turned list corners settings closed m i k out flags (record { k = k + 2; settled = s }) out″ flags′
       unfolding turnPoints turnFlags turnSettled putPoints putFlags
       entering k out out′ flags eo out″ f flags′ g =
-          record {
-            counted = rw is-some;
-            judged = is-settled;
-            points = rw (is-some, f, eo);
-            flagged = rw (is-some, g);
-          }
+          record { counted = rw is-some; judged = rw is-some; points = rw (is-some, f, eo); flagged = rw (is-some, g) }
 
       module _ (k : ℕ) (h : i < m) (l : k ≤ i * 2) where
         point-fits : (out out′ : List Float) → roomFor closed m ≤ length out / 2 → length out′ ≡ length out → k + 1 < length out′ / 2
-        point-fits out out′ r f = rw f (second-room list corners settings m i k (length out / 2) h l closed p is-some r)
+        point-fits out out′ r f = rw f (second-room list corners settings m i k (length out / 2) h l closed p s is-some r)
 
         flag-fits : (flags : List ℕ) (v : ℕ) → roomFor closed m ≤ length flags → k + 1 < length (set flags k v)
-        flag-fits flags v r = rw (length-set flags k v) (second-room list corners settings m i k (length flags) h l closed p is-some r)
+        flag-fits flags v r = rw (length-set flags k v) (second-room list corners settings m i k (length flags) h l closed p s is-some r)
 
 -- two flags are written
 still-long : (flags flags′ : List ℕ) (j k v w : ℕ) → flags′ ≡ set (set flags j v) k w → length flags′ ≡ length flags

@@ -10,7 +10,7 @@ use borrow.Author.Needs.{needs}
 use Rattle.laws.proofs.Integers.{abs-add-le, sfits-abs}
 use Rattle.spiral.specs.Spiral.{sound, ahead}
 use Rattle.spiral.specs.declared.SpiralWalker.{SpiralWalker}
-use Rattle.spiral.proofs.Laws.{by-bits, same, x-abs, y-abs, gx-abs, gy-abs, step-le, x-same, y-same, dir-same, gx-same, gy-same, sq-same, cc-same, cc-next-abs, cc-next-same}
+use Rattle.spiral.proofs.Ranges.{by-bits, same, x-abs, y-abs, gx-abs, gy-abs, step-le, x-same, y-same, dir-same, gx-same, gy-same, sq-same, cc-same, cc-next-abs, cc-next-same}
 use Rattle.spiral.proofs.places.ahead.Statement.{statement}
 use Rattle.spiral.proofs.places.ahead.Tie as tie
 

@@ -10,7 +10,7 @@ use borrow.Author.Needs.{needs}
 use Rattle.laws.proofs.Integers.{abs-add-le}
 use Rattle.spiral.specs.Spiral.{between, goingX, goingY, longer, corner}
 use Rattle.spiral.specs.declared.SpiralWalker.{SpiralWalker}
-use Rattle.spiral.proofs.Laws.{by-bits, same, told, from-one, four}
+use Rattle.spiral.proofs.Ranges.{by-bits, same, told, from-one, four}
 use Rattle.spiral.proofs.places.corner.Statement.{statement}
 use Rattle.spiral.proofs.places.corner.Tie as tie
 

@@ -1,6 +1,6 @@
 -- `spiral::places::going_x` meets its contract: its tests are those of the definition. Assumes nothing.
 use borrow.Author.Needs.{needs}
-use Rattle.spiral.proofs.Laws.{goes-on, goes-back, goes-across}
+use Rattle.spiral.proofs.Ranges.{goes-on, goes-back, goes-across}
 use Rattle.spiral.proofs.places.going_x.Statement.{statement}
 use Rattle.spiral.proofs.places.going_x.Tie as tie
 

@@ -12,7 +12,7 @@ use lib.Signed.{quotZ, remZ}
 use borrow.Author.Needs.{needs}
 use Rattle.laws.proofs.Integers.{add-sfits}
 use Rattle.spiral.specs.Spiral.{between, longer}
-use Rattle.spiral.proofs.Laws.{by-bits, four, from-one}
+use Rattle.spiral.proofs.Ranges.{by-bits, four, from-one}
 use Rattle.spiral.proofs.places.longer.Statement.{statement}
 use Rattle.spiral.proofs.places.longer.Tie as tie
 

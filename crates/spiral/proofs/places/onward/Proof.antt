@@ -6,7 +6,7 @@ use lib.Signed.{ltZ}
 use borrow.Author.Needs.{needs}
 use Rattle.spiral.specs.Spiral.{between, sound, turned, ahead, corner, onward}
 use Rattle.spiral.specs.declared.SpiralWalker.{SpiralWalker}
-use Rattle.spiral.proofs.Laws.{by-bits, turned-fine, turned-same, dir-fine, dir-same, sq-fine, sq-same, cc-next-same}
+use Rattle.spiral.proofs.Ranges.{by-bits, turned-fine, turned-same, dir-fine, dir-same, sq-fine, sq-same, cc-next-same}
 use Rattle.spiral.proofs.places.onward.Statement.{statement}
 use Rattle.spiral.proofs.places.onward.Tie as tie
 

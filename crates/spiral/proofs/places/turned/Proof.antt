@@ -8,7 +8,7 @@ use lib.IntN.{ℤ, pos, _+ℤ_}
 use lib.Signed.{leZ}
 use borrow.Author.Needs.{needs}
 use Rattle.spiral.specs.Spiral.{between, turned}
-use Rattle.spiral.proofs.Laws.{by-bits, four}
+use Rattle.spiral.proofs.Ranges.{by-bits, four}
 use Rattle.spiral.proofs.places.turned.Statement.{statement}
 use Rattle.spiral.proofs.places.turned.Tie as tie
 

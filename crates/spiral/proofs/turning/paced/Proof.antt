@@ -10,7 +10,7 @@ use lib.IntN.{ℤ, pos}
 use lib.Signed.{leZ, ltZ}
 use borrow.Author.Needs.{needs}
 use Rattle.spiral.specs.Spiral.{between, paced}
-use Rattle.spiral.proofs.Laws.{by-bits}
+use Rattle.spiral.proofs.Ranges.{by-bits}
 use Rattle.spiral.proofs.turning.paced.Statement.{statement}
 use Rattle.spiral.proofs.turning.paced.Tie as tie
 

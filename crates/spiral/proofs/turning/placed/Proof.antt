@@ -7,7 +7,7 @@ use mir.Facts.{toZ-ofZ}
 use lib.IntN.{ℤ, pos, negsuc}
 use borrow.Author.Needs.{needs}
 use Rattle.spiral.specs.Spiral.{between, placed}
-use Rattle.spiral.proofs.Laws.{by-bits}
+use Rattle.spiral.proofs.Ranges.{by-bits}
 use Rattle.spiral.proofs.turning.placed.Statement.{statement}
 use Rattle.spiral.proofs.turning.placed.Tie as tie
 

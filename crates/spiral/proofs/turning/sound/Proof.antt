@@ -6,7 +6,7 @@ use lib.Signed.{mag}
 use borrow.Author.Needs.{needs}
 use Rattle.spiral.specs.Spiral.{placed, paced, sound}
 use Rattle.spiral.specs.declared.SpiralWalker.{SpiralWalker}
-use Rattle.spiral.proofs.Laws.{by-bits, told}
+use Rattle.spiral.proofs.Ranges.{by-bits, told}
 use Rattle.spiral.proofs.turning.sound.Statement.{statement}
 use Rattle.spiral.proofs.turning.sound.Tie as tie
 

@@ -14,7 +14,7 @@ use Rattle.laws.proofs.Integers.{sub-sfits}
 use Rattle.point.specs.declared.refusal.Refusal.the-variants.{BadSize}
 use Rattle.spiral.specs.Spiral.{freshSpiral}
 use Rattle.spiral.specs.declared.Fresh.the-variants.{Refused, Ready}
-use Rattle.spiral.proofs.Laws.{by-bits}
+use Rattle.spiral.proofs.Ranges.{by-bits}
 use Rattle.spiral.proofs.turning.spiral.Statement.{statement}
 use Rattle.spiral.proofs.turning.spiral.Tie as tie
 

@@ -12,7 +12,7 @@ use Rattle.point.specs.declared.refusal.Refusal.the-variants.{BadSize}
 use Rattle.spiral.specs.Spiral.{sound, alone, onward, spiralTurn}
 use Rattle.spiral.specs.declared.SpiralWalker.{SpiralWalker}
 use Rattle.spiral.specs.declared.Turn.the-variants.{At, End, Refused}
-use Rattle.spiral.proofs.Laws.{by-bits, x-same, y-same, step-le}
+use Rattle.spiral.proofs.Ranges.{by-bits, x-same, y-same, step-le}
 use Rattle.spiral.proofs.turning.spiral_step.Statement.{statement}
 use Rattle.spiral.proofs.turning.spiral_step.Tie as tie
 

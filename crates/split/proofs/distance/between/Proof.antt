@@ -1,4 +1,4 @@
--- `spans::between` meets its contract. Assumes nothing.
+-- `between` meets its contract. Assumes nothing.
 use mathlib.Core.Path.{_≡_}
 use lib.Ieee.{binary64, sub}
 use borrow.Author.Needs.{needs}

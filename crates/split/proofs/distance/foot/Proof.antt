@@ -1,4 +1,4 @@
--- `spans::foot` meets its contract. Assumes nothing.
+-- `foot` meets its contract. Assumes nothing.
 use mathlib.Core.Bool.{Bool, true, false}
 use mathlib.Core.Path.{_≡_}
 use borrow.Author.Needs.{needs}

@@ -1,4 +1,4 @@
--- `spans::get_sq_seg_dist` meets its contract. Assumes nothing.
+-- `get_sq_seg_dist` meets its contract. Assumes nothing.
 use mathlib.Core.Path.{_≡_}
 use borrow.Author.Needs.{needs}
 use Rattle.point.specs.declared.PointI32.{PointI32}

@@ -1,4 +1,4 @@
--- `spans::has_length` meets its contract. Assumes nothing.
+-- `has_length` meets its contract. Assumes nothing.
 use borrow.Author.Needs.{needs}
 use Rattle.laws.proofs.Joined.{or-itself, or-second}
 use Rattle.split.proofs.distance.has_length.Statement.{statement}

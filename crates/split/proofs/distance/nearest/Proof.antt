@@ -1,4 +1,4 @@
--- `spans::nearest` meets its contract: each test picks a line of the definition. Assumes nothing.
+-- `nearest` meets its contract: each test picks a line of the definition. Assumes nothing.
 use mathlib.Core.Bool.{true, false}
 use mathlib.Core.Path.{_≡_}
 use lib.Ieee.{Float, binary64, add, mul, lt}

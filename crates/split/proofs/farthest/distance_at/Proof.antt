@@ -1,4 +1,4 @@
--- `spans::distance_at` meets its contract. Assumes nothing.
+-- `distance_at` meets its contract. Assumes nothing.
 use Prim.Native.Nat.{ℕ}
 use mathlib.Core.List.{List}
 use mathlib.Core.Path.{_≡_, ap, _∙_}

@@ -1,4 +1,4 @@
--- `spans::farther_of` meets its contract. Assumes nothing.
+-- `farther_of` meets its contract. Assumes nothing.
 use mathlib.Core.Bool.{true, false}
 use mathlib.Core.Path.{_≡_}
 use lib.Ieee.{lt}

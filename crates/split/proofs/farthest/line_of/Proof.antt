@@ -1,4 +1,4 @@
--- `spans::line_of` meets its contract. Assumes nothing.
+-- `line_of` meets its contract. Assumes nothing.
 use Prim.Native.Nat.{ℕ}
 use mathlib.Core.List.{List}
 use mathlib.Core.Path.{_≡_, ap₂, _∙_}
@@ -8,7 +8,7 @@ use Rattle.point.specs.declared.PointI32.{PointI32}
 use Rattle.point.specs.Points.{pointAt}
 use Rattle.split.specs.declared.distance.Segment.{Segment}
 use Rattle.split.specs.Distance.{placeOf, segmentOf}
-use Rattle.split.specs.Farthest.{lineOf}
+use Rattle.split.specs.inside.Spans.{lineOf}
 use Rattle.split.proofs.farthest.line_of.Statement.{statement}
 use Rattle.split.proofs.farthest.line_of.Tie as tie
 

@@ -1,4 +1,4 @@
--- `split::mark_span` meets its contract: its two parts, and the mark between them, give the marks of the whole.
+-- `mark_span` meets its contract: its two parts, and the mark between them, give the marks of the whole.
 -- The falling number is the length of the span. Assumes nothing.
 use Prim.Native.Nat.{ℕ, _-_, _<_}
 use native.Mathlib.Omega.{arith}
@@ -10,7 +10,7 @@ use Rattle.split.proofs.marks.mark_span.Reads as mark-span
 use Rattle.split.proofs.marks.mark_span.Kinds as mark-span-kinds
 use Rattle.split.proofs.marks.+mark_span.Lts-mark_span as mark-span-lts
 use Rattle.split.proofs.marks.clear.Reads as clear-reads
-use Rattle.split.proofs.span.split_point.Reads as split-point-reads
+use Rattle.split.proofs.farthest.farthest.Reads as farthest-reads
 use Rattle.split.proofs.Spans.{nothing-marked, all-dropped, both-marked}
 use Rattle.split.proofs.marks.+mark_span.{statement}
 use Rattle.split.proofs.marks.+mark_span.Tie.{close}
@@ -29,8 +29,8 @@ ruleset laws = (nothing-marked, all-dropped, both-marked, needs)
 
 pub +mark-span-spec : {M : Type 1} → statement M
 +mark-span-spec = close μ-mark-span λ t. mark-span-lts.spec (
-  split-point-reads.Asked,
-  split-point-reads.Learnt,
+  farthest-reads.Asked,
+  farthest-reads.Learnt,
   mark-span-below t,
   mark-span.Post,
   clear-reads.Asked,
@@ -40,7 +40,7 @@ pub +mark-span-spec : {M : Type 1} → statement M
     mark-span.Post
     (λ c. search laws)  -- add-if1
     (λ c. search laws)  -- returns
-    (λ c κs. search laws)  -- split-point-requires
+    (λ c κs. search laws)  -- farthest-requires
     (λ c κs. search laws)  -- mark-span-requires
     (λ c. search laws)  -- slice-write-marks
     (λ c κs. simp length-set (omega arith))  -- mark-span-requires-2

@@ -1,4 +1,4 @@
--- `split::number_span` meets its contract: its two parts, and the number between them, give the numbers of the whole.
+-- `number_span` meets its contract: its two parts, and the number between them, give the numbers of the whole.
 -- The falling number is the length of the span. Assumes nothing.
 use Prim.Native.Nat.{ℕ, _-_, _<_}
 use native.Mathlib.Omega.{arith}
@@ -11,7 +11,7 @@ use Rattle.split.proofs.numbers.number_span.Kinds as number-span-kinds
 use Rattle.split.proofs.numbers.+number_span.Lts-number_span as number-span-lts
 use Rattle.split.proofs.numbers.fill.Reads as fill-reads
 use Rattle.split.proofs.numbers.least.Reads as least-reads
-use Rattle.split.proofs.span.split_point.Reads as split-point-reads
+use Rattle.split.proofs.farthest.farthest.Reads as farthest-reads
 use Rattle.split.proofs.Spans.{nothing-numbered, inside-distance, all-zero, both-numbered}
 use Rattle.split.proofs.numbers.+number_span.{statement}
 use Rattle.split.proofs.numbers.+number_span.Tie.{close}
@@ -31,8 +31,8 @@ ruleset laws = (nothing-numbered, inside-distance, all-zero, both-numbered, need
 
 pub +number-span-spec : {M : Type 1} → statement M
 +number-span-spec = close μ-number-span λ t. number-span-lts.spec (
-  split-point-reads.Asked,
-  split-point-reads.Learnt,
+  farthest-reads.Asked,
+  farthest-reads.Learnt,
   fill-reads.Asked,
   fill-reads.Learnt,
   least-reads.Asked,
@@ -44,7 +44,7 @@ pub +number-span-spec : {M : Type 1} → statement M
     number-span.Post
     (λ c. search laws)  -- add-if1
     (λ c. search laws)  -- returns
-    (λ c κs. search laws)  -- split-point-requires
+    (λ c κs. search laws)  -- farthest-requires
     (λ c. search laws)  -- add-fill
     (λ c κs. search laws)  -- fill-requires
     (λ c. search laws)  -- same-length

@@ -1,4 +1,4 @@
--- `split::fill` meets its contract. The loop's invariant: what is left to store gives the whole. Assumes nothing.
+-- `fill` meets its contract. The loop's invariant: what is left to store gives the whole. Assumes nothing.
 use Prim.Native.Nat.{_≤_, _-_}
 use mathlib.Core.Path.{_≡_}
 use lib.ListN.{length, replicate}

@@ -1,4 +1,4 @@
--- `split::least` meets its contract. Assumes nothing.
+-- `least` meets its contract. Assumes nothing.
 use mathlib.Core.Bool.{true, false}
 use mathlib.Core.Path.{_≡_, sym}
 use lib.Ieee.{Float, lt}

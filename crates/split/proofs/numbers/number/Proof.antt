@@ -1,4 +1,4 @@
--- `split::number` meets its contract. Assumes nothing.
+-- `number` meets its contract. Assumes nothing.
 use Prim.Native.Nat.{_+_, _-_, _/_, _≤_, _<_}
 use mathlib.Core.Bool.{false}
 use mathlib.Core.List.{List}
@@ -11,7 +11,7 @@ use lib.Seq.{sets}
 use borrow.Author.Needs.{needs}
 use Rattle.laws.proofs.Finite.{infinity-nonneg}
 use Rattle.split.specs.Distance.{zero64, one64}
-use Rattle.split.specs.Marks.{numberedOf}
+use Rattle.split.specs.Buffers.{laidNumbers}
 use Rattle.split.specs.inside.Spans.{Distance}
 use Rattle.split.specs.Tree.{spanTree, down, numbersOf}
 use Rattle.split.proofs.Buffers.{laid-none, laid-no-room, all-laid}
@@ -31,19 +31,19 @@ unfolding fits
 infinity-distance = rw infinity-is (record { nonneg = infinity-nonneg; fitting = tt })
 
 module _ (points : List ℤ) (m : List Float) where
-  no-point : length points / 2 ≡ 0 → m ≡ numberedOf points m
-  unfolding numberedOf
+  no-point : length points / 2 ≡ 0 → m ≡ laidNumbers points m
+  unfolding laidNumbers
   no-point h = laid-none points (numbersOf points) m h
 
   module _ (n : length points / 2 ≡ 0 → ⊥) where
-    no-room : length m < length points / 2 → m ≡ numberedOf points m
-    unfolding numberedOf
+    no-room : length m < length points / 2 → m ≡ laidNumbers points m
+    unfolding laidNumbers
     no-room h = laid-no-room points (numbersOf points) m n h
 
     all-numbered : (m′ : List Float) → length points / 2 ≤ length m
         → m′ ≡ sets (set (set m 0 infinity) (length points / 2 - 1) infinity) (0 + 1) (down infinity (spanTree points 0 (length points / 2 - 1)))
-        → m′ ≡ numberedOf points m
-    unfolding numberedOf
+        → m′ ≡ laidNumbers points m
+    unfolding laidNumbers
     all-numbered m′ l h = all-laid points (inf false) (down (inf false)) (length-down (inf false)) (unfold down in refl) m m′ n l (rw infinity-is at h)
 
 ruleset laws = (infinity-distance, no-point, no-room, all-numbered, needs)

@@ -1,4 +1,4 @@
--- `sqrt::root::lengthen` meets its contract: words hold all that it works out, and the rest is the law of a root by halves. Assumes nothing.
+-- `lengthen` meets its contract: words hold all that it works out, and the rest is the law of a root by halves. Assumes nothing.
 use Prim.Native.Nat.{ℕ, _+_, _*_, _/_, _%_, _^_, _≤_, _<_}
 use native.Mathlib.Nat.{mul-le-mul}
 use native.Mathlib.Omega.{arith}

@@ -1,4 +1,4 @@
--- `sqrt::root::lowered` meets its contract. Assumes nothing.
+-- `lowered` meets its contract. Assumes nothing.
 use borrow.Author.Needs.{needs}
 use Rattle.sqrt.proofs.whole.ByHalves.{from-left, from-root}
 use Rattle.sqrt.proofs.root.lowered.Statement.{statement}

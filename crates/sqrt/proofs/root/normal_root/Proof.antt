@@ -1,4 +1,4 @@
--- `sqrt::root::normal_root` meets its contract: with the odd power of two, if any, moved into the number, half the exponent is the field, and
+-- `normal_root` meets its contract: with the odd power of two, if any, moved into the number, half the exponent is the field, and
 -- the nearest whole root the digits. Assumes nothing.
 use Prim.Native.Nat.{ℕ, _+_, _*_, _/_, _%_, _^_, _≤_, _<_}
 use mathlib.Core.Path.{_≡_}
@@ -7,7 +7,7 @@ use native.Mathlib.Omega.{arith}
 use lib.Ieee.{binary64, toBits}
 use lib.Pow.{pow-add, pow-mono, pow-pos, shl-lt}
 use borrow.Author.Needs.{needs}
-use Rattle.sqrt.specs.Nearest.{NearestWhole}
+use Rattle.sqrt.specs.inside.Whole.{NearestWhole}
 use Rattle.sqrt.specs.Root.{nearestRoot}
 use Rattle.sqrt.proofs.nearest.Patterns.{bits-of-root}
 use Rattle.sqrt.proofs.root.normal_root.Statement.{statement}

@@ -1,11 +1,11 @@
--- `sqrt::root::rounded_root` meets its contract: a quarter of the root is found, then half of it, then all, and the root is rounded by what is
+-- `rounded_root` meets its contract: a quarter of the root is found, then half of it, then all, and the root is rounded by what is
 -- left. Assumes nothing.
 use Prim.Native.Nat.{ℕ, _+_, _*_, _/_, _%_, _^_, _≤_, _<_}
 use native.Mathlib.Omega.{arith}
 use mir.Syntax.{w64}
 use mir.Val.{Fits}
 use borrow.Author.Needs.{needs}
-use Rattle.sqrt.specs.Nearest.{NearestWhole, Found}
+use Rattle.sqrt.specs.inside.Whole.{NearestWhole, Found}
 use Rattle.sqrt.proofs.whole.ByHalves.{found-below, found-from, rounds-up, rounds-down}
 use Rattle.sqrt.proofs.root.rounded_root.Statement.{statement}
 use Rattle.sqrt.proofs.root.rounded_root.Tie as tie

@@ -1,4 +1,4 @@
--- `sqrt::root::sqrt` meets its contract: the bits that are written for a value are read as that value. Assumes nothing.
+-- `sqrt` meets its contract: the bits that are written for a value are read as that value. Assumes nothing.
 use Prim.Native.Nat.{ℕ}
 use mathlib.Core.Path.{_≡_, ap, _∙_}
 use lib.Dec.{T}

@@ -1,4 +1,4 @@
--- `sqrt::root::sqrt_bits` meets its contract: the tests on the way tell what the pattern stands for, and so which root is asked. Assumes nothing.
+-- `sqrt_bits` meets its contract: the tests on the way tell what the pattern stands for, and so which root is asked. Assumes nothing.
 use Prim.Native.Nat.{ℕ, suc, _+_, _-_, _*_, _/_, _%_, _^_, _≤_, _<_}
 use mathlib.Core.Bool.{Bool, true, false}
 use mathlib.Core.Path.{_≡_, refl, sym, ap, _∙_}
@@ -9,8 +9,8 @@ use lib.Ieee.{binary64, toBits, ofBits}
 use lib.Pow.{pow-add, pow-pos}
 use borrow.Author.Needs.{needs}
 use borrow.Author.Tests.{ltb-true, ltb-false}
-use Rattle.sqrt.specs.Root.{nearestRoot, rootOf}
-use Rattle.sqrt.proofs.nearest.Theorems.{rootBits, root-of-no-number}
+use Rattle.sqrt.specs.Root.{nearestRoot, rootOf, rootBits}
+use Rattle.sqrt.proofs.CorrectlyRounded.{root-of-no-number}
 use Rattle.sqrt.proofs.nearest.Patterns.{root-of-units, reads-subnormal, reads-normal}
 use Rattle.sqrt.proofs.root.sqrt_bits.Statement.{statement}
 use Rattle.sqrt.proofs.root.sqrt_bits.Tie as tie

@@ -1,4 +1,4 @@
--- `sqrt::root::subnormal_root` meets its contract: the shift brings the leading digit to its place. Assumes nothing.
+-- `subnormal_root` meets its contract: the shift brings the leading digit to its place. Assumes nothing.
 use Prim.Native.Nat.{ℕ, suc, _+_, _-_, _*_, _%_, _^_, _≤_, _<_}
 use mathlib.Core.Path.{_≡_, sym, ap, _∙_}
 use native.Mathlib.Nat.{mod-eq-of-lt, pow-suc, mul-assoc, mul-le-mul-right, mul-lt-mul-of-pos-right, lt-of-not-le, not-le-of-lt, le-trans}

@@ -1,4 +1,4 @@
--- `sqrt::root::whole_root` meets its contract. The loop's invariant: with k bits still to try, the root is found but for less than 2 ^ k.
+-- `whole_root` meets its contract. The loop's invariant: with k bits still to try, the root is found but for less than 2 ^ k.
 -- Assumes nothing.
 use Prim.Native.Nat.{ℕ, _+_, _-_, _*_, _%_, _^_, _≤_, _<_}
 use mathlib.Core.Path.{_≡_, ap, _∙_}
@@ -7,7 +7,7 @@ use native.Mathlib.Omega.{arith}
 use mir.Syntax.{w64}
 use mir.Val.{Fits}
 use borrow.Author.Needs.{needs}
-use Rattle.sqrt.specs.Nearest.{Found}
+use Rattle.sqrt.specs.inside.Whole.{Found}
 use Rattle.sqrt.proofs.whole.BitByBit.{bit-set, bit-clear}
 use Rattle.sqrt.proofs.root.whole_root.Statement.{statement}
 use Rattle.sqrt.proofs.root.whole_root.Tie as tie

@@ -1,4 +1,4 @@
--- `survey::outline` meets its contract: the walk from the first start, or its refusal. Assumes nothing.
+-- `outline` meets its contract: the walk from the first start, or its refusal. Assumes nothing.
 use Prim.Native.Nat.{ℕ}
 use mathlib.Core.Bool.{true}
 use mathlib.Core.List.{List}
@@ -11,7 +11,7 @@ use Rattle.chart.specs.Start.{firstStart}
 use Rattle.chart.specs.declared.Chart.{Chart}
 use Rattle.chart.specs.declared.Start.{Start}
 use Rattle.chart.specs.declared.Start.the-variants as Start
-use Rattle.walker.specs.Walk.{Outcome, walked}
+use Rattle.walker.specs.Walk.{Outlined as Outcome, walked}
 use Rattle.walker.specs.declared.Walked.the-variants as Walked
 use Rattle.survey.specs.Survey.{outlineFrom, outlineOf}
 use Rattle.survey.proofs.answer.outline.Statement.{statement}

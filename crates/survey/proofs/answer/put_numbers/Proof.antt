@@ -1,11 +1,11 @@
--- `survey::put_numbers` meets its contract: no answer is longer than the room. Assumes nothing.
+-- `put_numbers` meets its contract: no answer is longer than the room. Assumes nothing.
 use Prim.Native.Nat.{ℕ, _+_, _≤_}
 use mathlib.Core.List.{List, [], _∷_}
 use mathlib.Core.Path.{_≡_}
 use lib.IntN.{ℤ}
 use lib.ListN.{length}
 use borrow.Author.Needs.{needs}
-use Rattle.reduce.specs.Reduce.{numberedOf}
+use Rattle.reduce.specs.Numbers.{numberedOf}
 use Rattle.texts.specs.Put.{put}
 use Rattle.lines.specs.Turns.{line}
 use Rattle.frames.specs.Room.{numberRoom}
@@ -16,8 +16,8 @@ use Rattle.survey.proofs.answer.put_numbers.Statement.{statement}
 use Rattle.survey.proofs.answer.put_numbers.Tie as tie
 
 whole : (list : List ℤ) (out mid last : List ℕ) (at m r : ℕ) → at + 32769 ≤ length out →
-    record { next = m; out = mid } ≡ put (numbersReply (numberedOf list numberRoom)) out at → record { next = r; out = last } ≡ put (10 ∷ []) mid m →
-    record { next = r; out = last } ≡ put (line (numbersReply (numberedOf list numberRoom))) out at
+    record { answer = m; out = mid } ≡ put (numbersReply (numberedOf list numberRoom)) out at → record { answer = r; out = last } ≡ put (10 ∷ []) mid m →
+    record { answer = r; out = last } ≡ put (line (numbersReply (numberedOf list numberRoom))) out at
 whole list out mid last at m r h e f = line-put (numbersReply (numberedOf list numberRoom)) out mid last at m r (numbered-short list) h e f
 
 pub put-numbers-spec : {M : Type 1} → statement M

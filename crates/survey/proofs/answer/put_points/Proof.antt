@@ -1,4 +1,4 @@
--- `survey::put_points` meets its contract: so few points have a line that fits. Assumes nothing.
+-- `put_points` meets its contract: so few points have a line that fits. Assumes nothing.
 use Prim.Native.Nat.{ℕ, _+_, _≤_}
 use mathlib.Core.List.{List, [], _∷_}
 use mathlib.Core.Path.{_≡_}
@@ -15,8 +15,8 @@ use Rattle.survey.proofs.answer.put_points.Statement.{statement}
 use Rattle.survey.proofs.answer.put_points.Tie as tie
 
 whole : (kind n : ℕ) (values : List ℤ) (out mid last : List ℕ) (at m r : ℕ) → length values ≤ 8190 → at + 32769 ≤ length out →
-    record { next = m; out = mid } ≡ put (pointsText kind n values) out at → record { next = r; out = last } ≡ put (10 ∷ []) mid m →
-    record { next = r; out = last } ≡ put (line (pointsText kind n values)) out at
+    record { answer = m; out = mid } ≡ put (pointsText kind n values) out at → record { answer = r; out = last } ≡ put (10 ∷ []) mid m →
+    record { answer = r; out = last } ≡ put (line (pointsText kind n values)) out at
 whole kind n values out mid last at m r few h e f =
     line-put (pointsText kind n values) out mid last at m r (omega (arith, length-points kind n values)) h e f
 

@@ -1,16 +1,16 @@
--- `survey::put_refusal` meets its contract. Assumes nothing.
+-- `put_refusal` meets its contract. Assumes nothing.
 use Prim.Native.Nat.{ℕ}
 use mathlib.Core.List.{List, []}
 use mathlib.Core.Path.{_≡_, ap, _∙_}
 use borrow.Author.Needs.{needs}
-use Rattle.texts.specs.Put.{Outcome, put}
+use Rattle.texts.specs.Put.{Placed, put}
 use Rattle.lines.specs.Turns.{line}
 use Rattle.frames.specs.Replies.{pointsText}
 use Rattle.survey.specs.Survey.{refusedLine}
 use Rattle.survey.proofs.answer.put_refusal.Statement.{statement}
 use Rattle.survey.proofs.answer.put_refusal.Tie as tie
 
-of-number : (n m : ℕ) (out : List ℕ) (o : Outcome) → n ≡ m → o ≡ put (line (pointsText 0 n [])) out 0 → o ≡ put (refusedLine m) out 0
+of-number : (n m : ℕ) (out : List ℕ) (o : Placed) → n ≡ m → o ≡ put (line (pointsText 0 n [])) out 0 → o ≡ put (refusedLine m) out 0
 of-number n m out o number e = e ∙ ap (λ (k : ℕ). put (refusedLine k) out 0) number
 
 pub put-refusal-spec : {M : Type 1} → statement M

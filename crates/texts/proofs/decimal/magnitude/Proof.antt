@@ -1,4 +1,4 @@
--- `texts::magnitude` meets its contract. Assumes nothing.
+-- `magnitude` meets its contract. Assumes nothing.
 use borrow.Author.Needs.{needs}
 use Rattle.texts.proofs.Signs.{minus-fits, minus-nonNeg, minus-abs-fits, minus-one-fits, minus-one, itself-nonNeg, itself-fits, itself}
 use Rattle.texts.proofs.decimal.magnitude.Statement.{statement}

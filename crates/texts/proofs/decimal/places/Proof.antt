@@ -1,4 +1,4 @@
--- `texts::places` meets its contract. The loop's invariant: behind the digits of `rest` stand `k` - 1 more. Assumes nothing.
+-- `places` meets its contract. The loop's invariant: behind the digits of `rest` stand `k` - 1 more. Assumes nothing.
 use Prim.Native.Nat.{ℕ, zero, suc, _+_, _-_, _/_, _^_, _≤_, _<_}
 use mathlib.Core.Path.{_≡_, subst}
 use native.Mathlib.Nat.{pow-suc}

@@ -1,4 +1,4 @@
--- `texts::put_decimal` meets its contract. Assumes nothing.
+-- `put_decimal` meets its contract. Assumes nothing.
 use Prim.Native.Nat.{ℕ}
 use mathlib.Core.Bool.{true, false}
 use mathlib.Core.List.{List, _∷_}
@@ -8,13 +8,13 @@ use lib.Signed.{ltZ}
 use mir.Syntax.{w64}
 use mir.Val.{SFits, toZ, ofZ}
 use borrow.Author.Needs.{needs}
-use Rattle.texts.specs.Put.{Outcome, put}
+use Rattle.texts.specs.Put.{Placed, put}
 use Rattle.texts.specs.Text.{naturalText, decimalText}
 use Rattle.texts.proofs.Signs.{itself, text-below, text-above}
 use Rattle.texts.proofs.decimal.put_decimal.Statement.{statement}
 use Rattle.texts.proofs.decimal.put_decimal.Tie as tie
 
-module _ (z : ℤ) (m at : ℕ) (out : List ℕ) (o : Outcome) (fits : SFits w64 z) (size : m ≡ natAbs (toZ w64 (ofZ w64 z))) where
+module _ (z : ℤ) (m at : ℕ) (out : List ℕ) (o : Placed) (fits : SFits w64 z) (size : m ≡ natAbs (toZ w64 (ofZ w64 z))) where
   size-is : m ≡ natAbs z
   size-is = size ∙ itself z fits
 

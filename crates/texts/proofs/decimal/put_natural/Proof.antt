@@ -1,16 +1,16 @@
--- `texts::put_natural` meets its contract. Assumes nothing.
+-- `put_natural` meets its contract. Assumes nothing.
 use Prim.Native.Nat.{ℕ}
 use mathlib.Core.List.{List}
 use mathlib.Core.Path.{_≡_, sym, ap, _∙_}
 use lib.ListN.{length}
 use borrow.Author.Needs.{needs}
-use Rattle.texts.specs.Put.{Outcome, put}
+use Rattle.texts.specs.Put.{Placed, put}
 use Rattle.texts.specs.Text.{lowDigits, naturalText}
 use Rattle.texts.proofs.Puts.{decimal-low}
 use Rattle.texts.proofs.decimal.put_natural.Statement.{statement}
 use Rattle.texts.proofs.decimal.put_natural.Tie as tie
 
-all : (n k at : ℕ) (out : List ℕ) (o : Outcome) → k ≡ length (naturalText n) → o ≡ put (lowDigits 10 k n) out at → o ≡ put (naturalText n) out at
+all : (n k at : ℕ) (out : List ℕ) (o : Placed) → k ≡ length (naturalText n) → o ≡ put (lowDigits 10 k n) out at → o ≡ put (naturalText n) out at
 all n k at out o l e = e ∙ ap (λ (t : List ℕ). put t out at) (ap (λ (d : ℕ). lowDigits 10 d n) l ∙ sym (decimal-low 20 n))
 
 ruleset laws = (all, needs)

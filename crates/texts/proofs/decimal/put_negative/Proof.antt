@@ -1,4 +1,4 @@
--- `texts::put_negative` meets its contract. Assumes nothing.
+-- `put_negative` meets its contract. Assumes nothing.
 use Prim.Native.Nat.{ℕ, _+_, _^_, _≤_, _<_}
 use mathlib.Core.Bool.{Bool, true}
 use mathlib.Core.List.{List, [], _∷_, _++_}
@@ -40,7 +40,7 @@ module _ (k at : ℕ) (out : List ℕ) (room : Bool) (says : room ≡ leb (at + 
 module _ (n k at : ℕ) (out : List ℕ) (room : Bool) (digits : k ≡ length (naturalText n)) (says : room ≡ leb (at + (k + 1)) (length out)) where
   spelled : (last : List ℕ) → room ≡ true →
       last ≡ take (at + 1) (set out at 45) ++ lowDigits 10 k n ++ drop (at + 1 + k) (set out at 45) →
-      record { next = at + (k + 1); out = last } ≡ put (45 ∷ naturalText n) out at
+      record { answer = at + (k + 1); out = last } ≡ put (45 ∷ naturalText n) out at
   spelled last r e =
       let a : at < length out = sign-fits k at out room says r in
       let b : at < at + 1 + k = omega arith in

@@ -1,4 +1,4 @@
--- `texts::glyph` meets its contract. Assumes nothing.
+-- `glyph` meets its contract. Assumes nothing.
 use Prim.Native.Nat.{ℕ, _+_, _≤_, _<_}
 use mathlib.Core.Path.{_≡_}
 use borrow.Author.Needs.{needs}

@@ -1,4 +1,4 @@
--- `util::area` meets its contract: within the limits the area fits. Assumes nothing.
+-- `area` meets its contract: within the limits the area fits. Assumes nothing.
 use borrow.Author.Needs.{needs}
 use Rattle.util.proofs.ByBits.{area-fits, area-narrowed}
 use Rattle.util.proofs.area.area.Statement.{statement}

@@ -1,4 +1,4 @@
--- `util::cross` meets its contract: the difference of two products fits. Assumes nothing.
+-- `cross` meets its contract: the difference of two products fits. Assumes nothing.
 use mathlib.Core.Path.{_≡_}
 use mir.Syntax.{w32, w64}
 use mir.Val.{SFits, ofZ, toZ}

@@ -1,4 +1,4 @@
--- `util::difference` meets its contract: within the limits the difference fits. Assumes nothing.
+-- `difference` meets its contract: within the limits the difference fits. Assumes nothing.
 use borrow.Author.Needs.{needs}
 use Rattle.laws.proofs.Integers.{signed-laws}
 use Rattle.util.proofs.area.difference.Statement.{statement}

@@ -1,4 +1,4 @@
--- `util::product` meets its contract: the product of two numbers of `i32` fits `i64`. Assumes nothing.
+-- `product` meets its contract: the product of two numbers of `i32` fits `i64`. Assumes nothing.
 use mir.Facts.{toZ-ofZ, sfits-widen}
 use mir.Syntax.{w64}
 use mir.Val.{SFits}

@@ -1,4 +1,4 @@
--- `util::signed_area` meets its contract: a point out of range is refused, and else the area is given. Assumes nothing.
+-- `signed_area` meets its contract: a point out of range is refused, and else the area is given. Assumes nothing.
 use Prim.Native.Nat.{_≤_}
 use mathlib.Core.Bool.{Bool, true, false, not}
 use mathlib.Core.Path.{_≡_, sym, _∙_}
@@ -8,35 +8,31 @@ use mir.ValLaws.{toZ-ofZ}
 use lib.IntN.{ℤ, natAbs}
 use borrow.Author.Needs.{needs}
 use borrow.Author.Tests.{not-true, not-false}
-use Rattle.laws.proofs.Joined.{both-true}
-use Rattle.point.specs.Limits.{inRange}
+use Rattle.point.specs.Limits.{pointInRange}
 use Rattle.point.specs.declared.PointI32.{PointI32}
 use Rattle.point.specs.declared.refusal.Refusal.the-variants.{BadPoint}
-use Rattle.point.proofs.Claims.{in-range-abs}
-use Rattle.util.specs.Area.{pointFine, signedArea, signedAreaOf}
+use Rattle.point.proofs.Near.{in-range-near}
+use Rattle.util.specs.Area.{signedArea, signedAreaOf}
 use Rattle.util.specs.declared.Signed.the-variants.{Area, Refused}
 use Rattle.util.proofs.area.signed_area.Statement.{statement}
 use Rattle.util.proofs.area.signed_area.Tie as tie
 
-module _ (p : PointI32) (r : Bool) (says : r ≡ pointFine p) (good : not r ≡ false) where
-  is-fine : pointFine p ≡ true
-  is-fine = sym says ∙ not-false r good
-
+module _ (p : PointI32) (r : Bool) (says : r ≡ pointInRange p) (good : not r ≡ false) where
   across : natAbs (p .x) ≤ 16383
-  across = in-range-abs (p .x) (both-true (inRange (p .x)) (inRange (p .y)) is-fine .0)
+  across = in-range-near p (sym says ∙ not-false r good) .across
 
   down : natAbs (p .y) ≤ 16383
-  down = in-range-abs (p .y) (both-true (inRange (p .x)) (inRange (p .y)) is-fine .1)
+  down = in-range-near p (sym says ∙ not-false r good) .down
 
-module _ (p1 p2 p3 : PointI32) (r1 : Bool) (e1 : r1 ≡ pointFine p1) where
+module _ (p1 p2 p3 : PointI32) (r1 : Bool) (e1 : r1 ≡ pointInRange p1) where
   first-out : not r1 ≡ true → Refused BadPoint ≡ signedAreaOf p1 p2 p3
   first-out t1 = rw (← e1, not-true r1 t1)
 
-  module _ (t1 : not r1 ≡ false) (r2 : Bool) (e2 : r2 ≡ pointFine p2) where
+  module _ (t1 : not r1 ≡ false) (r2 : Bool) (e2 : r2 ≡ pointInRange p2) where
     second-out : not r2 ≡ true → Refused BadPoint ≡ signedAreaOf p1 p2 p3
     second-out t2 = rw (← e1, ← e2, not-false r1 t1, not-true r2 t2)
 
-    module _ (t2 : not r2 ≡ false) (r3 : Bool) (e3 : r3 ≡ pointFine p3) where
+    module _ (t2 : not r2 ≡ false) (r3 : Bool) (e3 : r3 ≡ pointInRange p3) where
       third-out : not r3 ≡ true → Refused BadPoint ≡ signedAreaOf p1 p2 p3
       third-out t3 = rw (← e1, ← e2, ← e3, not-false r1 t1, not-false r2 t2, not-true r3 t3)
 
@@ -49,11 +45,11 @@ pub signed-area-spec : {M : Type 1} → statement M
 signed-area-spec =
     tie.close
     (tie.spec
-    (λ c κs. search laws)  -- fine-requires
+    (λ c κs. search laws)  -- point-in-range-requires
     (λ c. search laws)  -- returns
-    (λ c κs. search laws)  -- fine-requires-2
+    (λ c κs. search laws)  -- point-in-range-requires-2
     (λ c. search laws)  -- returns-2
-    (λ c κs. search laws)  -- fine-requires-3
+    (λ c κs. search laws)  -- point-in-range-requires-3
     (λ c. search laws)  -- returns-3
     (λ c κs. search laws)  -- area-requires
     (λ c. search laws))  -- returns-4

@@ -1,4 +1,4 @@
--- `crossing::both_negligible` meets its contract: its two tests, joined. Assumes nothing.
+-- `both_negligible` meets its contract: its two tests, joined. Assumes nothing.
 use borrow.Author.Needs.{needs}
 use Rattle.laws.proofs.Joined.{joined}
 use Rattle.util.proofs.crossing.both_negligible.Statement.{statement}

@@ -1,15 +1,10 @@
--- `crossing::crossing` meets its contract: the same operations. Assumes nothing.
-use mathlib.Core.Bool.{_&&_}
+-- `crossing` meets its contract: the same operations. Assumes nothing.
 use mathlib.Core.Path.{_≡_, _∙_}
-use lib.Ieee.{Float, binary64, sub, div}
+use lib.Ieee.{Float, binary64, sub}
 use borrow.Author.Needs.{needs}
-use Rattle.laws.specs.If.{if_then_else_}
 use Rattle.point.specs.declared.PointF64.{PointF64}
-use Rattle.util.specs.Lengths.{middle}
 use Rattle.util.specs.declared.ratios.Intersection.{Intersection}
-use Rattle.util.specs.declared.ratios.Intersection.the-variants.{Parallel, Coincide, Cross}
-use Rattle.util.specs.Along.{along}
-use Rattle.util.specs.Lines.{negligible, across, crossing}
+use Rattle.util.specs.Crossing.{across, judged, crossing}
 use Rattle.util.proofs.crossing.crossing.Statement.{statement}
 use Rattle.util.proofs.crossing.crossing.Tie as tie
 
@@ -18,13 +13,7 @@ module _ (p1 p2 p3 p4 : PointF64) (denom numera numerb : Float)
     (ea : numera ≡ across (sub binary64 (p4 .x) (p3 .x)) (sub binary64 (p1 .y) (p3 .y)) (sub binary64 (p4 .y) (p3 .y)) (sub binary64 (p1 .x) (p3 .x)))
     (eb : numerb ≡ across (sub binary64 (p2 .x) (p1 .x)) (sub binary64 (p1 .y) (p3 .y)) (sub binary64 (p2 .y) (p1 .y)) (sub binary64 (p1 .x) (p3 .x)))
   where
-    same : (r : Intersection) →
-        r ≡ (
-        if negligible denom && negligible numera && negligible numerb then Coincide (middle p1 p2) else
-        if negligible denom then Parallel else
-        Cross (along p1 p2 (div binary64 numera denom)) (div binary64 numera denom) (div binary64 numerb denom)
-        ) →
-        r ≡ crossing p1 p2 p3 p4
+    same : (r : Intersection) → r ≡ judged p1 p2 denom numera numerb → r ≡ crossing p1 p2 p3 p4
     unfolding crossing
     same r e = e ∙ (rw (ed, ea, eb))
 

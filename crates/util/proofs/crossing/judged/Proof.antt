@@ -1,35 +1,26 @@
--- `crossing::judged` meets its contract: by whether the denominator is negligible, and then by the numerators. Assumes nothing.
+-- `judged` meets its contract: by whether the denominator is negligible, and then by the numerators. Assumes nothing.
 use mathlib.Core.Bool.{Bool, true, false, _&&_}
 use mathlib.Core.Path.{_≡_}
 use lib.Ieee.{Float, binary64, div}
 use borrow.Author.Needs.{needs}
-use Rattle.laws.specs.If.{if_then_else_}
 use Rattle.point.specs.declared.PointF64.{PointF64}
 use Rattle.util.specs.Lengths.{middle}
-use Rattle.util.specs.declared.ratios.Intersection.{Intersection}
 use Rattle.util.specs.declared.ratios.Intersection.the-variants.{Parallel, Coincide, Cross}
-use Rattle.util.specs.Along.{along}
-use Rattle.util.specs.Lines.{negligible}
+use Rattle.util.specs.Crossing.{negligible, along, judged}
 use Rattle.util.proofs.crossing.judged.Statement.{statement}
 use Rattle.util.proofs.crossing.judged.Tie as tie
 
 module _ (p1 p2 : PointF64) (denom numera numerb : Float) where
-  abbrev whole : Intersection
-  whole =
-      if negligible denom && negligible numera && negligible numerb then Coincide (middle p1 p2) else
-      if negligible denom then Parallel else
-      Cross (along p1 p2 (div binary64 numera denom)) (div binary64 numera denom) (div binary64 numerb denom)
-
   module _ (none : Bool) (says : none ≡ negligible denom) where
     crossed : none ≡ false → (p : PointF64) → p ≡ along p1 p2 (div binary64 numera denom) →
-        Cross p (div binary64 numera denom) (div binary64 numerb denom) ≡ whole
+        Cross p (div binary64 numera denom) (div binary64 numerb denom) ≡ judged p1 p2 denom numera numerb
     crossed e p f = rw (← says, e, f)
 
     module _ (e : none ≡ true) (neither : Bool) (said : neither ≡ (negligible numera && negligible numerb)) where
-      coinciding : neither ≡ true → (p : PointF64) → p ≡ middle p1 p2 → Coincide p ≡ whole
+      coinciding : neither ≡ true → (p : PointF64) → p ≡ middle p1 p2 → Coincide p ≡ judged p1 p2 denom numera numerb
       coinciding f p g = rw (← says, e, ← said, f, g)
 
-      parallel : neither ≡ false → Parallel ≡ whole
+      parallel : neither ≡ false → Parallel ≡ judged p1 p2 denom numera numerb
       parallel f = rw (← says, e, ← said, f)
 
 ruleset laws = (crossed, coinciding, parallel, needs)

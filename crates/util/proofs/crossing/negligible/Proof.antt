@@ -1,10 +1,10 @@
--- `crossing::negligible` meets its contract: its two tests, joined. Assumes nothing.
+-- `negligible` meets its contract: its two tests, joined. Assumes nothing.
 use mathlib.Core.Bool.{true, false}
 use mathlib.Core.Path.{_≡_}
 use lib.Ieee.{Float, neg, lt}
 use borrow.Author.Needs.{needs}
 use Rattle.laws.proofs.Joined.{and-itself, and-second}
-use Rattle.util.specs.Lines.{tiny, negligible}
+use Rattle.util.specs.Crossing.{tiny, negligible}
 use Rattle.util.proofs.crossing.negligible.Statement.{statement}
 use Rattle.util.proofs.crossing.negligible.Tie as tie
 

@@ -1,4 +1,4 @@
--- `measures::half` meets its contract. Its literal is that of the definition: antt computes both. Assumes nothing.
+-- `half` meets its contract. Its literal is that of the definition: antt computes both. Assumes nothing.
 use mathlib.Core.Path.{refl}
 use lib.Ieee.{ofBits, ofInt}
 use Rattle.util.proofs.lengths.half.Statement.{statement}

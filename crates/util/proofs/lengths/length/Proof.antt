@@ -1,4 +1,4 @@
--- `measures::length` meets its contract. Assumes nothing.
+-- `length` meets its contract. Assumes nothing.
 use borrow.Author.Needs.{needs}
 use Rattle.util.specs.Lengths.{lengthOf}
 use Rattle.util.proofs.lengths.length.Statement.{statement}

@@ -1,4 +1,4 @@
--- `measures::length_i32` meets its contract: within the limits nothing is lost. Assumes nothing.
+-- `length_i32` meets its contract: within the limits nothing is lost. Assumes nothing.
 use Prim.Native.Nat.{_≤_}
 use mathlib.Core.Path.{_≡_, _∙_}
 use native.Mathlib.Omega.{arith}

@@ -1,4 +1,4 @@
--- `measures::middle` meets its contract. Assumes nothing.
+-- `middle` meets its contract. Assumes nothing.
 use mathlib.Core.Path.{_≡_}
 use lib.Ieee.{Float}
 use borrow.Author.Needs.{needs}

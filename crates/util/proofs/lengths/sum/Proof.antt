@@ -1,4 +1,4 @@
--- `measures::sum` meets its contract: within the limits it fits. Assumes nothing.
+-- `sum` meets its contract: within the limits it fits. Assumes nothing.
 use borrow.Author.Needs.{needs}
 use Rattle.laws.proofs.Integers.{signed-laws}
 use Rattle.util.proofs.lengths.sum.Statement.{statement}

@@ -1,4 +1,4 @@
--- `ratios::either_off` meets its contract: its two tests, joined. Assumes nothing.
+-- `either_off` meets its contract: its two tests, joined. Assumes nothing.
 use borrow.Author.Needs.{needs}
 use Rattle.laws.proofs.Joined.{joined}
 use Rattle.util.proofs.ratios.either_off.Statement.{statement}

@@ -1,4 +1,4 @@
--- `ratios::off` meets its contract: its two tests, joined. Assumes nothing.
+-- `off` meets its contract: its two tests, joined. Assumes nothing.
 use mathlib.Core.Bool.{true, false}
 use mathlib.Core.Path.{_≡_}
 use lib.Ieee.{Float, binary64, ofInt, ofBits, add, sub, lt}

@@ -1,4 +1,4 @@
--- `walker::count` meets its contract. The loop's invariant: the points so far and what is left of the walk give the count of the whole. The
+-- `walker::course::count` meets its contract. The loop's invariant: the points so far and what is left of the walk give the count of the whole. The
 -- measure is what is left of the step limit. Assumes nothing.
 use Prim.Native.Nat.{_-_}
 use borrow.Author.Needs.{needs}

@@ -1,6 +1,6 @@
--- `walker::out_of_range` meets its contract: it tests both coordinates. Assumes nothing.
+-- `walker::course::out_of_range` meets its contract: it tests both coordinates. Assumes nothing.
 use borrow.Author.Needs.{needs}
-use Rattle.walker.proofs.course.Outcome.{far-x, far-y}
+use Rattle.walker.proofs.course.Returns.{far-x, far-y}
 use Rattle.walker.proofs.course.out_of_range.Statement.{statement}
 use Rattle.walker.proofs.course.out_of_range.Tie as tie
 

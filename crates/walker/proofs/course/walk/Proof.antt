@@ -1,6 +1,6 @@
--- `walker::walk` meets its contract: at each return the tests on the way pick a line of `walked`. Assumes nothing.
+-- `walker::course::walk` meets its contract: at each return the tests on the way pick a line of `walked`. Assumes nothing.
 use borrow.Author.Needs.{needs}
-use Rattle.walker.proofs.course.Outcome.{bad-size, not-bad, bad-point, no-way-out, way-on-edge, stuck-out, full-out, has-room, done-out}
+use Rattle.walker.proofs.course.Returns.{bad-size, not-bad, bad-point, no-way-out, way-on-edge, stuck-out, full-out, has-room, done-out}
 use Rattle.walker.proofs.course.walk.Statement.{statement}
 use Rattle.walker.proofs.course.walk.Tie as tie
 

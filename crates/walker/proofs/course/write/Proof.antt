@@ -1,4 +1,4 @@
--- `walker::write` meets its contract. The loop's invariant: what is written and what is left of the walk make the whole. The measure is what
+-- `walker::course::write` meets its contract. The loop's invariant: what is written and what is left of the walk make the whole. The measure is what
 -- is left of the step limit. Assumes nothing.
 use Prim.Native.Nat.{_-_}
 use borrow.Author.Needs.{needs}

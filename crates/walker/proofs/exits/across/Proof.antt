@@ -1,4 +1,4 @@
--- `walker::across` meets its contract. Assumes nothing.
+-- `walker::exits::across` meets its contract. Assumes nothing.
 use borrow.Author.Needs.{needs}
 use Rattle.walker.proofs.exits.Words.{across-right, across-left, across-not}
 use Rattle.walker.proofs.exits.across.Statement.{statement}

@@ -1,4 +1,4 @@
--- `walker::downward` meets its contract. Assumes nothing.
+-- `walker::exits::downward` meets its contract. Assumes nothing.
 use borrow.Author.Needs.{needs}
 use Rattle.walker.proofs.exits.Words.{downward-down, downward-up, downward-not}
 use Rattle.walker.proofs.exits.downward.Statement.{statement}

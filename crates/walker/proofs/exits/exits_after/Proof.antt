@@ -1,4 +1,4 @@
--- `walker::exits_after` meets its contract. Assumes nothing.
+-- `walker::exits::exits_after` meets its contract. Assumes nothing.
 use borrow.Author.Needs.{needs}
 use Rattle.walker.proofs.exits.Words.{rightAfter, exits-after, exits-after-left}
 use Rattle.walker.proofs.exits.exits_after.Statement.{statement}

@@ -1,4 +1,4 @@
--- `walker::first_exit` meets its contract. Assumes nothing.
+-- `walker::exits::first_exit` meets its contract. Assumes nothing.
 use borrow.Author.Needs.{needs}
 use Rattle.walker.proofs.exits.Words.{first-of}
 use Rattle.walker.proofs.exits.first_exit.Statement.{statement}

@@ -1,4 +1,4 @@
--- `walker::first_exits` meets its contract. Assumes nothing.
+-- `walker::exits::first_exits` meets its contract. Assumes nothing.
 use borrow.Author.Needs.{needs}
 use Rattle.walker.proofs.exits.Words.{rightFirst, first-exits}
 use Rattle.walker.proofs.exits.first_exits.Statement.{statement}

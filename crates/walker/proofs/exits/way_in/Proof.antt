@@ -1,6 +1,6 @@
--- `walker::way_in` meets its contract. Assumes nothing.
+-- `walker::exits::way_in` meets its contract. Assumes nothing.
 use borrow.Author.Needs.{needs}
-use Rattle.walker.proofs.course.Outcome.{way-by-bits}
+use Rattle.walker.proofs.course.Returns.{way-by-bits}
 use Rattle.walker.proofs.run.Running.{around-small}
 use Rattle.walker.proofs.exits.way_in.Statement.{statement}
 use Rattle.walker.proofs.exits.way_in.Tie as tie

@@ -1,6 +1,6 @@
--- `walker::is_on` meets its contract: it compares bits. Assumes nothing.
+-- `walker::run::is_on` meets its contract: it compares bits. Assumes nothing.
 use borrow.Author.Needs.{needs}
-use Rattle.walker.proofs.Same.{elsewhere, same-column}
+use Rattle.walker.proofs.SamePoint.{elsewhere, same-column}
 use Rattle.walker.proofs.run.is_on.Statement.{statement}
 use Rattle.walker.proofs.run.is_on.Tie as tie
 

@@ -1,4 +1,4 @@
--- `walker::run` meets its contract. The loop's invariant: what is left of the run gives the whole run. The measure is what is left of 600
+-- `walker::run::run` meets its contract. The loop's invariant: what is left of the run gives the whole run. The measure is what is left of 600
 -- steps, and no run has so many. Assumes nothing.
 use Prim.Native.Nat.{_+_, _-_}
 use borrow.Author.Needs.{needs}

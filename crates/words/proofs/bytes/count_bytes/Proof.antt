@@ -1,4 +1,4 @@
--- `pairs::count_bytes` meets its contract. The loop's invariant: `n` bytes are counted, and what stands from `at` on decides.
+-- `count_bytes` meets its contract. The loop's invariant: `n` bytes are counted, and what stands from `at` on decides.
 -- Assumes nothing.
 use Prim.Native.Nat.{ℕ, _+_, _-_, _≤_, _<_}
 use mathlib.Core.List.{List}
@@ -6,11 +6,11 @@ use mathlib.Core.Path.{_≡_}
 use native.Mathlib.Omega.{arith}
 use lib.ListN.{length, drop, getD}
 use borrow.Author.Needs.{needs}
-use Rattle.words.specs.Into.{countOf}
-use Rattle.words.specs.Pairs.{pairOf, bytesOf}
+use Rattle.words.specs.Bytes.{pairOf, bytesOf}
+use Rattle.words.specs.inside.Bytes.{countOf}
 use Rattle.words.specs.declared.bytes.Read.the-variants as Read
-use Rattle.words.proofs.Into.{plus, plus-zero, count-more, count-none, count-all}
-use Rattle.words.proofs.Pairs.{no-digits, one-digit, a-pair, no-pair}
+use Rattle.words.proofs.bytes.Storing.{plus, plus-zero, count-more, count-none, count-all}
+use Rattle.words.proofs.bytes.Pairs.{no-digits, one-digit, a-pair, no-pair}
 use Rattle.words.proofs.bytes.count_bytes.Statement.{statement}
 use Rattle.words.proofs.bytes.count_bytes.Tie as tie
 

@@ -1,4 +1,4 @@
--- `pairs::is_dash` meets its contract. Assumes nothing.
+-- `is_dash` meets its contract. Assumes nothing.
 use Prim.Native.Nat.{ℕ}
 use mathlib.Core.Bool.{false}
 use mathlib.Core.List.{List}
@@ -7,7 +7,7 @@ use lib.Dec.{eqb}
 use lib.ListN.{length, getD}
 use borrow.Author.Needs.{needs}
 use borrow.Author.Tests.{eq-eqb, ne-eqb}
-use Rattle.words.specs.Into.{isDash}
+use Rattle.words.specs.Bytes.{isDash}
 use Rattle.words.proofs.bytes.is_dash.Statement.{statement}
 use Rattle.words.proofs.bytes.is_dash.Tie as tie
 

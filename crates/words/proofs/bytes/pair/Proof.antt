@@ -1,10 +1,10 @@
--- `pairs::pair` meets its contract. Assumes nothing.
+-- `pair` meets its contract. Assumes nothing.
 use Prim.Native.Nat.{ℕ, _+_, _*_, _≤_, _<_}
 use mathlib.Core.Path.{_≡_}
 use borrow.Author.Needs.{needs}
 use borrow.Author.Tests.{lt-ltb, le-ltb}
-use Rattle.words.specs.Digit.{digitOf}
-use Rattle.words.specs.Pairs.{pairOf}
+use Rattle.words.specs.Digits.{digitOf}
+use Rattle.words.specs.Bytes.{pairOf}
 use Rattle.words.proofs.bytes.pair.Statement.{statement}
 use Rattle.words.proofs.bytes.pair.Tie as tie
 

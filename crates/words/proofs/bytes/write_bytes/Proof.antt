@@ -1,9 +1,9 @@
--- `pairs::write_bytes` meets its contract. The loop's invariant: what stands from `at` on, put behind `n` bytes, is what is to be
+-- `write_bytes` meets its contract. The loop's invariant: what stands from `at` on, put behind `n` bytes, is what is to be
 -- put in the end. Assumes nothing.
 use Prim.Native.Nat.{ℕ, _+_, _-_, _≤_, _<_}
 use mathlib.Core.Bool.{Bool, true, false}
 use mathlib.Core.List.{List, _++_}
-use mathlib.Core.Option.{some, none}
+use mathlib.Core.Option.{none}
 use mathlib.Core.Path.{_≡_, refl}
 use native.Mathlib.Omega.{arith}
 use lib.Dec.{eqb, ltb}
@@ -12,26 +12,26 @@ use mir.Syntax.{w8}
 use mir.Val.{Fits}
 use borrow.Author.Needs.{needs}
 use borrow.Author.Tests.{eqb-true, eqb-false, ltb-true, ltb-false}
-use Rattle.words.specs.Into.{prepend, over, Room}
-use Rattle.words.specs.Pairs.{pairOf, bytesOf}
-use Rattle.words.proofs.Into.{room-some, room-here, room-next, store-more, store-all}
-use Rattle.words.proofs.Pairs.{no-digits, one-digit, a-pair, no-pair}
+use Rattle.words.specs.Bytes.{prepend, pairOf, bytesOf}
+use Rattle.words.specs.inside.Bytes.{laid, Room}
+use Rattle.words.proofs.bytes.Storing.{room-some, room-here, room-next, store-more, store-all}
+use Rattle.words.proofs.bytes.Pairs.{no-digits, one-digit, a-pair, no-pair}
 use Rattle.words.proofs.bytes.write_bytes.Statement.{statement}
 use Rattle.words.proofs.bytes.write_bytes.Tie as tie
 
 abbrev Inv-loop : tie.InvT-loop
 Inv-loop word to₀ n₀ at₀ to n at =
     (at ≤ length word) × (n ≤ at) × (length to ≡ length to₀) × Room (bytesOf (drop at word)) n (length to) ×
-    (over (bytesOf word) to₀ ≡ take n to ++ over (bytesOf (drop at word)) (drop n to))
+    (laid (bytesOf word) to₀ ≡ take n to ++ laid (bytesOf (drop at word)) (drop n to))
 
 abbrev μ-loop : tie.MeasureT-loop
 μ-loop word to₀ n₀ at₀ to n at = length word - at
 
 module _ (w to₀ to : List ℕ) (n at : ℕ) (room : Room (bytesOf (drop at w)) n (length to)) where
-  all : over (bytesOf w) to₀ ≡ take n to ++ over (bytesOf (drop at w)) (drop n to) → at ≤ length w → length w ≤ at + 1 → to ≡ over (bytesOf w) to₀
+  all : laid (bytesOf w) to₀ ≡ take n to ++ laid (bytesOf (drop at w)) (drop n to) → at ≤ length w → length w ≤ at + 1 → to ≡ laid (bytesOf w) to₀
   all inv h l = by-test (eqb (at + 1) (length w)) refl
     where
-      by-test : (t : Bool) → eqb (at + 1) (length w) ≡ t → to ≡ over (bytesOf w) to₀
+      by-test : (t : Bool) → eqb (at + 1) (length w) ≡ t → to ≡ laid (bytesOf w) to₀
       by-test true e = room-some (bytesOf (drop at w)) none n (length to) room (one-digit w at (eqb-true (at + 1) (length w) e))
       by-test false e =
           let ne : at + 1 ≡ length w → ⊥ = eqb-false (at + 1) (length w) e in
@@ -48,11 +48,11 @@ module _ (w to₀ to : List ℕ) (n at : ℕ) (room : Room (bytesOf (drop at w))
     fits : Fits w8 p
     fits = record { fits = a-byte }
 
-    here : bytesOf (drop at w) ≡ prepend (some p) (bytesOf (drop (at + 2) w))
+    here : bytesOf (drop at w) ≡ prepend p (bytesOf (drop (at + 2) w))
     here = a-pair w at more p is a-byte
 
-    again : over (bytesOf w) to₀ ≡ take n to ++ over (bytesOf (drop at w)) (drop n to) →
-        over (bytesOf w) to₀ ≡ take (n + 1) (set to n p) ++ over (bytesOf (drop (at + 2) w)) (drop (n + 1) (set to n p))
+    again : laid (bytesOf w) to₀ ≡ take n to ++ laid (bytesOf (drop at w)) (drop n to) →
+        laid (bytesOf w) to₀ ≡ take (n + 1) (set to n p) ++ laid (bytesOf (drop (at + 2) w)) (drop (n + 1) (set to n p))
     again inv = store-more (bytesOf w) (bytesOf (drop at w)) (bytesOf (drop (at + 2) w)) to₀ to n p inv room here
 
     room-again : Room (bytesOf (drop (at + 2) w)) (n + 1) (length (set to n p))

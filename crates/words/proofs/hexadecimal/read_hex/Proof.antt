@@ -1,4 +1,4 @@
--- `digits::read_hex` meets its contract. The loop's invariant: what the digits from `i` on say, behind `n`, is what all say.
+-- `read_hex` meets its contract. The loop's invariant: what the digits from `i` on say, behind `n`, is what all say.
 -- Assumes nothing.
 use Prim.Native.Nat.{ℕ, _+_, _-_, _*_, _^_, _≤_, _<_}
 use mathlib.Core.List.{List}
@@ -12,8 +12,8 @@ use mir.Syntax.{w64}
 use mir.Val.{Fits}
 use borrow.Author.Needs.{needs}
 use borrow.Author.Tests.{lt-ltb, le-ltb, le-leb, lt-leb}
-use Rattle.words.specs.Digit.{digitOf}
-use Rattle.words.specs.Numeral.{allDigits, value, hexOf}
+use Rattle.words.specs.Digits.{digitOf, allDigits, value}
+use Rattle.words.specs.Hexadecimal.{hexOf}
 use Rattle.words.specs.declared.hexadecimal.Hex.the-variants.{Is, Not}
 use Rattle.words.proofs.Numerals.{passed, said}
 use Rattle.words.proofs.hexadecimal.read_hex.Statement.{statement}

@@ -1,11 +1,11 @@
--- `digits::read_pattern` meets its contract. Assumes nothing.
+-- `read_pattern` meets its contract. Assumes nothing.
 use Prim.Native.Nat.{ℕ}
 use mathlib.Core.List.{List}
 use mathlib.Core.Path.{_≡_}
 use lib.ListN.{length}
 use borrow.Author.Needs.{needs}
 use borrow.Author.Tests.{eq-eqb, ne-eqb}
-use Rattle.words.specs.Numeral.{hexOf, patternOf}
+use Rattle.words.specs.Hexadecimal.{hexOf, patternOf}
 use Rattle.words.specs.declared.hexadecimal.Hex.{Hex}
 use Rattle.words.specs.declared.hexadecimal.Hex.the-variants.{Not}
 use Rattle.words.proofs.hexadecimal.read_pattern.Statement.{statement}

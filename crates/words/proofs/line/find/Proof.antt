@@ -1,4 +1,4 @@
--- `line_words::find` meets its contract. The loop's invariant: what stands before `i` is passed, and the rest decides.
+-- `find` meets its contract. The loop's invariant: what stands before `i` is passed, and the rest decides.
 -- Assumes nothing.
 use Prim.Native.Nat.{ℕ, _≤_, _<_, _-_, _+_}
 use mathlib.Core.List.{List}

@@ -1,4 +1,4 @@
--- `line_words::word` meets its contract: the word is the first one of what stands where it starts. Assumes nothing.
+-- `word` meets its contract: the word is the first one of what stands where it starts. Assumes nothing.
 use Prim.Native.Nat.{ℕ, _-_}
 use mathlib.Core.List.{List}
 use mathlib.Core.Path.{_≡_}
@@ -6,7 +6,7 @@ use native.Mathlib.Omega.{arith}
 use lib.ListN.{take, drop}
 use borrow.Author.Needs.{needs}
 use Rattle.words.specs.Line.{upTo, firstFrom, wordOf}
-use Rattle.words.proofs.Parts.{first-part, find-le}
+use Rattle.words.proofs.Splits.{first-part, find-le}
 use Rattle.words.proofs.line.word.Statement.{statement}
 use Rattle.words.proofs.line.word.Tie as tie
 

@@ -1,4 +1,4 @@
--- `line_words::words` meets its contract. The loop's invariant: the spaces before `i` are counted, and the rest decides.
+-- `words` meets its contract. The loop's invariant: the spaces before `i` are counted, and the rest decides.
 -- Assumes nothing.
 use Prim.Native.Nat.{ℕ, suc, _≤_, _<_, _-_, _+_}
 use mathlib.Core.List.{List}
@@ -9,8 +9,8 @@ use lib.ListN.{length, drop, getD, drop-of-length-le}
 use lib.Seq.{drop-cons}
 use borrow.Author.Needs.{needs}
 use borrow.Author.Tests.{eq-eqb, ne-eqb}
-use Rattle.words.specs.Line.{split, wordsOf}
-use Rattle.words.proofs.Parts.{onto-length, some-part}
+use Rattle.words.specs.Line.{cutAt, wordsOf}
+use Rattle.words.proofs.Splits.{onto-length, some-part}
 use Rattle.words.proofs.line.words.Statement.{statement}
 use Rattle.words.proofs.line.words.Tie as tie
 
@@ -22,17 +22,17 @@ abbrev μ-loop : tie.MeasureT-loop
 
 module _ (line : List ℕ) (n i : ℕ) (inv : length (wordsOf line) + 1 ≡ n + length (wordsOf (drop i line))) where
   space : i < length line → getD line i 0 ≡ 32 → length (wordsOf line) + 1 ≡ n + 1 + length (wordsOf (drop (i + 1) line))
-  unfolding split
+  unfolding cutAt
   space h e = rw (inv, add-one i, drop-cons line i 0, eq-eqb _ _ e) (omega arith)
 
   no-space : i < length line → (getD line i 0 ≡ 32 → ⊥) → length (wordsOf line) + 1 ≡ n + length (wordsOf (drop (i + 1) line))
-  unfolding split
+  unfolding cutAt
   no-space h e =
       let some : 0 < length (wordsOf (drop (suc i) line)) = some-part 32 (drop (suc i) line) in
       rw (inv, add-one i, drop-cons line i 0, ne-eqb _ _ e, onto-length)
 
   none-left : length line ≤ i → n ≡ length (wordsOf line)
-  unfolding split
+  unfolding cutAt
   none-left h = let e : length (wordsOf line) + 1 ≡ n + 1 = rw (inv, drop-of-length-le) in omega arith
 
 ruleset laws = (space, no-space, none-left, needs)

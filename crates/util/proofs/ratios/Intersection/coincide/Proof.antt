@@ -1,4 +1,4 @@
--- `ratios::Intersection::coincide` meets its contract: by the cases, and of a crossing by both ratios. Assumes nothing.
+-- `Intersection::coincide` meets its contract: by the cases, and of a crossing by both ratios. Assumes nothing.
 use mathlib.Core.Bool.{true, false}
 use mathlib.Core.Path.{_≡_}
 use lib.Ieee.{Float}

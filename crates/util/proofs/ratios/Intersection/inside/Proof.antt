@@ -1,4 +1,4 @@
--- `ratios::Intersection::inside` meets its contract: by the cases, and of a crossing by its ratios. Assumes nothing.
+-- `Intersection::inside` meets its contract: by the cases, and of a crossing by its ratios. Assumes nothing.
 use mathlib.Core.Bool.{Bool, true, false, not, _||_}
 use mathlib.Core.Path.{_≡_}
 use lib.Ieee.{Float}

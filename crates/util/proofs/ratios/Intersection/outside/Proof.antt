@@ -1,4 +1,4 @@
--- `ratios::Intersection::outside` meets its contract: by the cases, and of a crossing by its ratios. Assumes nothing.
+-- `Intersection::outside` meets its contract: by the cases, and of a crossing by its ratios. Assumes nothing.
 use mathlib.Core.Bool.{Bool, false, _||_}
 use mathlib.Core.Path.{_≡_}
 use lib.Ieee.{Float}

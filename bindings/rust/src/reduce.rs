@@ -1,0 +1,160 @@
+//! Zooms: fewer points, the wider the tolerance.
+
+use crate::refusal::answered;
+use crate::{raw, Point, Refusal};
+
+/// The radial pass: keeps a point if it lies farther than the tolerance from the last one kept, and the
+/// first and the last. The tolerance is squared, 0 to 4,294,967,296 square pixels.
+///
+/// Asks for [`places(points.len())`](crate::places) places, and answers how many it filled.
+///
+/// ```
+/// let line = [[0, 0], [3, 4], [6, 8]];
+/// let mut out = [[9; 2]; 3];
+/// assert_eq!(sandline::simplify_radial_dist(&line, 25.0, &mut out), Ok(2));
+/// assert_eq!(out, [[0, 0], [6, 8], [9, 9]]);
+/// assert_eq!(sandline::simplify_radial_dist(&line, 24.0, &mut out), Ok(3));
+/// ```
+pub fn simplify_radial_dist(
+    points: &[Point],
+    sq_tolerance: f64,
+    out: &mut [Point],
+) -> Result<usize, Refusal> {
+    let (points, out) = (points.as_flattened(), out.as_flattened_mut());
+    answered(0, |count| unsafe {
+        raw::sandline_simplify_radial_dist(
+            points.as_ptr(),
+            points.len(),
+            sq_tolerance,
+            out.as_mut_ptr(),
+            out.len(),
+            count,
+        )
+    })
+}
+
+/// Douglas-Peucker at a squared tolerance, 0 to 4,294,967,296 square pixels. Both ends stay; one point is
+/// answered twice. `marks` then starts with a byte for each point, 1 if it is kept and 0 if not.
+///
+/// Asks for [`places(points.len())`](crate::places) places and for as many marks as there are points, and
+/// answers how many places it filled.
+///
+/// ```
+/// let zigzag = [[0, 0], [8, 2], [0, 4], [8, 0]];
+/// let (mut out, mut marks) = ([[9; 2]; 4], [9; 4]);
+/// assert_eq!(sandline::simplify_douglas_peucker(&zigzag, 16.0, &mut out, &mut marks), Ok(2));
+/// assert_eq!(out[..2], [[0, 0], [8, 0]]);
+/// assert_eq!(marks, [1, 0, 0, 1]);
+/// ```
+pub fn simplify_douglas_peucker(
+    points: &[Point],
+    sq_tolerance: f64,
+    out: &mut [Point],
+    marks: &mut [u8],
+) -> Result<usize, Refusal> {
+    let (points, out) = (points.as_flattened(), out.as_flattened_mut());
+    answered(0, |count| unsafe {
+        raw::sandline_simplify_douglas_peucker(
+            points.as_ptr(),
+            points.len(),
+            sq_tolerance,
+            out.as_mut_ptr(),
+            out.len(),
+            marks.as_mut_ptr(),
+            marks.len(),
+            count,
+        )
+    })
+}
+
+/// The radial pass at half the squared tolerance, and then Douglas-Peucker. The tolerance is in pixels, 0
+/// to 65,536. Up to two points, and any list at tolerance 0, are answered whole; else `scratch` then starts
+/// with what the radial pass left, and `marks` with a byte for each point of that.
+///
+/// Asks for [`places(points.len())`](crate::places) places, and for as much scratch and as many marks as
+/// there are points, and answers how many places it filled.
+///
+/// ```
+/// let pixel = [[0, 0], [1, 0], [1, 1], [0, 1], [0, 0]];
+/// let (mut out, mut scratch, mut marks) = ([[9; 2]; 5], [[9; 2]; 5], [9; 5]);
+/// assert_eq!(sandline::reduce(&pixel, 3.0, &mut out, &mut scratch, &mut marks), Ok(2));
+/// assert_eq!(out[..3], [[0, 0], [0, 0], [9, 9]]);
+/// ```
+pub fn reduce(
+    points: &[Point],
+    tolerance: f64,
+    out: &mut [Point],
+    scratch: &mut [Point],
+    marks: &mut [u8],
+) -> Result<usize, Refusal> {
+    let (points, out) = (points.as_flattened(), out.as_flattened_mut());
+    let scratch = scratch.as_flattened_mut();
+    answered(0, |count| unsafe {
+        raw::sandline_reduce(
+            points.as_ptr(),
+            points.len(),
+            tolerance,
+            out.as_mut_ptr(),
+            out.len(),
+            scratch.as_mut_ptr(),
+            scratch.len(),
+            marks.as_mut_ptr(),
+            marks.len(),
+            count,
+        )
+    })
+}
+
+/// Puts one number for each point at the start of `out`: at exactly the squared tolerances below it
+/// Douglas-Peucker keeps the point. Both ends have infinity.
+///
+/// Asks for [`places(points.len())`](crate::places) places, and answers how many it filled.
+///
+/// ```
+/// let zigzag = [[0, 0], [8, 2], [0, 4], [8, 0]];
+/// let mut out = [0.0; 4];
+/// assert_eq!(sandline::numbers(&zigzag, &mut out), Ok(4));
+/// assert_eq!(out, [f64::INFINITY, 16.0, 16.0, f64::INFINITY]);
+/// ```
+pub fn numbers(points: &[Point], out: &mut [f64]) -> Result<usize, Refusal> {
+    let points = points.as_flattened();
+    answered(0, |count| unsafe {
+        raw::sandline_numbers(points.as_ptr(), points.len(), out.as_mut_ptr(), out.len(), count)
+    })
+}
+
+/// Puts the points whose number is greater than a squared tolerance, with both ends, at the start of `out`:
+/// what Douglas-Peucker answers at that tolerance, where `numbers` are those of the same list.
+///
+/// Asks for [`places(points.len())`](crate::places) places, and answers how many it filled. Numbers that are
+/// not as many as the points are a [`Refusal::BadPoint`].
+///
+/// ```
+/// let zigzag = [[0, 0], [8, 2], [0, 4], [8, 0]];
+/// let (mut by, mut out) = ([0.0; 4], [[9; 2]; 4]);
+/// sandline::numbers(&zigzag, &mut by)?;
+/// assert_eq!(sandline::zoom(&zigzag, &by, 16.0, &mut out), Ok(2));
+/// assert_eq!(out, [[0, 0], [8, 0], [9, 9], [9, 9]]);
+/// assert_eq!(sandline::zoom(&zigzag, &by, 15.0, &mut out), Ok(4));
+/// # Ok::<(), sandline::Refusal>(())
+/// ```
+pub fn zoom(
+    points: &[Point],
+    numbers: &[f64],
+    sq_tolerance: f64,
+    out: &mut [Point],
+) -> Result<usize, Refusal> {
+    let (points, out) = (points.as_flattened(), out.as_flattened_mut());
+    answered(0, |count| unsafe {
+        raw::sandline_zoom(
+            points.as_ptr(),
+            points.len(),
+            numbers.as_ptr(),
+            numbers.len(),
+            sq_tolerance,
+            out.as_mut_ptr(),
+            out.len(),
+            count,
+        )
+    })
+}
