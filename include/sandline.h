@@ -76,7 +76,7 @@
 #include <stdint.h>
 
 // The version of this header, and of the archive that is made beside it (docs/CHANGES.md).
-#define SANDLINE_VERSION "1.1.0"
+#define SANDLINE_VERSION "1.1.1"
 #define SANDLINE_VERSION_MAJOR 1
 #define SANDLINE_VERSION_MINOR 1
 #define SANDLINE_VERSION_PATCH 0
