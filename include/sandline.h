@@ -79,7 +79,7 @@
 #define SANDLINE_VERSION "1.1.1"
 #define SANDLINE_VERSION_MAJOR 1
 #define SANDLINE_VERSION_MINOR 1
-#define SANDLINE_VERSION_PATCH 0
+#define SANDLINE_VERSION_PATCH 1
 
 #if SIZE_MAX != UINT64_MAX
 #error "libsandline_c.a is compiled for a size_t of 64 bits"
@@ -322,7 +322,7 @@ uint8_t sandline_simplify_radial_dist(const int32_t *points, size_t length, doub
 // Douglas-Peucker at a SQUARED tolerance, 0 to 4,294,967,296. Both ends stay; one point is answered twice.
 // After it marks starts with n bytes, 1 for each point kept and 0 for each dropped.
 // Room: n marks too. Refuses a list of no points (4) too.
-// Stack of sandline_simplify_douglas_peucker: 312 bytes, and 144 for each further level, n - 2 of them at most.
+// Stack of sandline_simplify_douglas_peucker: 296 bytes, and 144 for each further level, n - 2 of them at most.
 uint8_t sandline_simplify_douglas_peucker(const int32_t *points, size_t length, double tolerance, int32_t *out,
                                           size_t room, uint8_t *marks, size_t mark_room, size_t *count);
 
@@ -330,7 +330,7 @@ uint8_t sandline_simplify_douglas_peucker(const int32_t *points, size_t length, 
 // Up to two points, and any list at tolerance 0, are answered whole; else scratch starts with the list that
 // the radial pass left, and marks with one byte for each point of that.
 // Room: 2n elements of scratch and n marks too.
-// Stack of sandline_reduce: 328 bytes, and 144 for each further level, n - 2 of them at most.
+// Stack of sandline_reduce: 312 bytes, and 144 for each further level, n - 2 of them at most.
 uint8_t sandline_reduce(const int32_t *points, size_t length, double tolerance, int32_t *out, size_t room,
                         int32_t *scratch, size_t scratch_room, uint8_t *marks, size_t mark_room, size_t *count);
 
@@ -344,7 +344,7 @@ uint8_t sandline_numbers(const int32_t *points, size_t length, double *out, size
 // that tolerance, at the cost of one comparison for each point. The numbers are those of the same list; numbers_length
 // other than n is a bad list (3).
 // Refuses a list of no points (4) too.
-// Stack of sandline_zoom: 40 bytes.
+// Stack of sandline_zoom: 72 bytes.
 uint8_t sandline_zoom(const int32_t *points, size_t length, const double *numbers, size_t numbers_length,
                       double tolerance, int32_t *out, size_t room, size_t *count);
 
