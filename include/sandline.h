@@ -11,7 +11,7 @@
 //
 //     static int32_t walked[8192], kept[8192];
 //     int32_t start[2];
-//     size_t n;
+//     uint64_t n;
 //     if (sandline_first_start(width, height, pixels, bytes, start) == SANDLINE_DONE &&
 //         sandline_walk(width, height, pixels, bytes, start[0], start[1], true, walked, 8192, &n) == SANDLINE_DONE &&
 //         sandline_simplify(walked, 2 * n, true, kept, 8192, &n) == SANDLINE_DONE)
@@ -72,7 +72,6 @@
 #define SANDLINE_H
 
 #include <stdbool.h>
-#include <stddef.h>
 #include <stdint.h>
 
 // The version of this header, and of the archive that is made beside it (docs/CHANGES.md).
@@ -80,10 +79,6 @@
 #define SANDLINE_VERSION_MAJOR 1
 #define SANDLINE_VERSION_MINOR 1
 #define SANDLINE_VERSION_PATCH 1
-
-#if SIZE_MAX != UINT64_MAX
-#error "libsandline_c.a is compiled for a size_t of 64 bits"
-#endif
 
 #ifdef __cplusplus
 extern "C" {
@@ -113,16 +108,16 @@ enum sandline_number {
 // Whether the pixel in column x of row y is set. Refuses nothing: outside the chart, past the last byte, and
 // of a chart wider than 512, no pixel is set.
 // Stack of sandline_pixel: 8 bytes.
-bool sandline_pixel(size_t width, size_t height, const uint8_t *pixels, size_t bytes, int32_t x, int32_t y);
+bool sandline_pixel(uint64_t width, uint64_t height, const uint8_t *pixels, uint64_t bytes, int32_t x, int32_t y);
 
 // How many pixels are set, in count.
 // Stack of sandline_area: 56 bytes.
-uint8_t sandline_area(size_t width, size_t height, const uint8_t *pixels, size_t bytes, size_t *count);
+uint8_t sandline_area(uint64_t width, uint64_t height, const uint8_t *pixels, uint64_t bytes, uint64_t *count);
 
 // Where a walk may begin, x and y: the top left corner of the first set pixel, row by row.
 // Refuses a chart without one: SANDLINE_NO_WAY.
 // Stack of sandline_first_start: 16 bytes.
-uint8_t sandline_first_start(size_t width, size_t height, const uint8_t *pixels, size_t bytes,
+uint8_t sandline_first_start(uint64_t width, uint64_t height, const uint8_t *pixels, uint64_t bytes,
                              int32_t start[2]);
 
 // ---- Walks along the outline of what is set.
@@ -149,8 +144,8 @@ uint8_t sandline_first_start(size_t width, size_t height, const uint8_t *pixels,
 // Refuses: a bad chart (1), x or y beyond 16,383 (3), a start whose four pixels are alike (8), over 1,000,000 steps
 // after some run (9), no room (10).
 // Stack of sandline_walk: 384 bytes.
-uint8_t sandline_walk(size_t width, size_t height, const uint8_t *pixels, size_t bytes, int32_t x, int32_t y,
-                      bool clockwise, int32_t *out, size_t room, size_t *count);
+uint8_t sandline_walk(uint64_t width, uint64_t height, const uint8_t *pixels, uint64_t bytes, int32_t x, int32_t y,
+                      bool clockwise, int32_t *out, uint64_t room, uint64_t *count);
 
 // ---- Spirals: a square of pixels, one by one from its centre outwards.
 
@@ -163,20 +158,20 @@ typedef struct sandline_spiral_walker {
     int32_t gy;  // -1 to 1
     int32_t sq;  // 1 to 1,024
     int32_t cc;  // 0 to sq - 1
-    size_t area; // up to 262,144
-    size_t step; // up to area
+    uint64_t area; // up to 262,144
+    uint64_t step; // up to area
 } sandline_spiral_walker;
 
 // The spiral of a square of size by size, 0 to 512, before its first step.
 // Refuses a size beyond that: SANDLINE_BAD_SIZE.
 // Stack of sandline_spiral: 8 bytes.
-uint8_t sandline_spiral(size_t size, sandline_spiral_walker *spiral);
+uint8_t sandline_spiral(uint64_t size, sandline_spiral_walker *spiral);
 
 // One step: the place that the spiral stood on, x and y, and a count of 1; or a count of 0 where it has ended, and
 // then place and spiral hold what they held. (Odd sizes from 3 leave the square, as in the Rust.)
 // Refuses a field out of range: SANDLINE_BAD_SIZE, and a count of 0 too.
 // Stack of sandline_spiral_advance: 56 bytes.
-uint8_t sandline_spiral_advance(sandline_spiral_walker *spiral, int32_t place[2], size_t *count);
+uint8_t sandline_spiral_advance(sandline_spiral_walker *spiral, int32_t place[2], uint64_t *count);
 
 // ---- Pictures: charts out of Netpbm's PBM files, and into them.
 
@@ -185,7 +180,7 @@ uint8_t sandline_spiral_advance(sandline_spiral_walker *spiral, int32_t place[2]
 // stands behind them is not looked at: the next picture, if there is one, begins at file + count.
 //
 //     static uint8_t pixels[32768]; // room for every chart
-//     size_t width, height, n;
+//     uint64_t width, height, n;
 //     if (sandline_read_pbm(file, length, pixels, sizeof pixels, &width, &height, &n) == SANDLINE_DONE &&
 //         sandline_first_start(width, height, pixels, sizeof pixels, start) == SANDLINE_DONE) // and so on, as above
 //
@@ -199,8 +194,8 @@ uint8_t sandline_spiral_advance(sandline_spiral_walker *spiral, int32_t place[2]
 // a byte of a plain raster that is not 0, 1 or white space, missing pixels (12). Refused, width and height hold what
 // they held.
 // Stack of sandline_read_pbm: 56 bytes.
-uint8_t sandline_read_pbm(const uint8_t *file, size_t length, uint8_t *pixels, size_t room, size_t *width,
-                          size_t *height, size_t *count);
+uint8_t sandline_read_pbm(const uint8_t *file, uint64_t length, uint8_t *pixels, uint64_t room, uint64_t *width,
+                          uint64_t *height, uint64_t *count);
 
 // Writes a chart to out as a raw picture: P4, newline, the width, a space, the height, newline, and the rows with their
 // padding cleared. Reading it gives the chart back. Count is in bytes.
@@ -208,8 +203,8 @@ uint8_t sandline_read_pbm(const uint8_t *file, size_t length, uint8_t *pixels, s
 // Room: as many bytes, 7 to 11 for the header and (width + 7) / 8 * height for the rows; 32,779 hold every chart.
 // Refuses: a bad chart (1), no room (10).
 // Stack of sandline_write_pbm: 56 bytes.
-uint8_t sandline_write_pbm(size_t width, size_t height, const uint8_t *pixels, size_t bytes, uint8_t *out,
-                           size_t room, size_t *count);
+uint8_t sandline_write_pbm(uint64_t width, uint64_t height, const uint8_t *pixels, uint64_t bytes, uint8_t *out,
+                           uint64_t room, uint64_t *count);
 
 // ---- Geometry: areas, midpoints, lengths, and where two lines cross.
 //
@@ -239,7 +234,7 @@ uint8_t sandline_norm_i32(int32_t x, int32_t y, double *length);
 // A refusal counts 0 too: look at the number first.
 // Stack of sandline_find_intersection: 8 bytes.
 uint8_t sandline_find_intersection(const double first[4], const double second[4], double values[4],
-                                   size_t *count);
+                                   uint64_t *count);
 
 // What such an answer says of the two pairs of points, within 1e-3 of a ratio: whether the crossing lies outside of
 // either pair, inside of both, and whether the lines are one. The values are those that
@@ -248,9 +243,9 @@ uint8_t sandline_find_intersection(const double first[4], const double second[4]
 // Stack of sandline_outside: 8 bytes.
 // Stack of sandline_inside: 8 bytes.
 // Stack of sandline_coincide: 8 bytes.
-bool sandline_outside(const double *values, size_t count);
-bool sandline_inside(const double *values, size_t count);
-bool sandline_coincide(const double *values, size_t count);
+bool sandline_outside(const double *values, uint64_t count);
+bool sandline_inside(const double *values, uint64_t count);
+bool sandline_coincide(const double *values, uint64_t count);
 
 // ---- Simplification: an outline without staircases, and without the points that cost little.
 //
@@ -259,18 +254,18 @@ bool sandline_coincide(const double *values, size_t count);
 
 // Without one-pixel staircases. Clockwise says which way round the list goes.
 // Stack of sandline_remove_staircase: 104 bytes.
-uint8_t sandline_remove_staircase(const int32_t *points, size_t length, bool clockwise, int32_t *out,
-                                  size_t room, size_t *count);
+uint8_t sandline_remove_staircase(const int32_t *points, uint64_t length, bool clockwise, int32_t *out,
+                                  uint64_t room, uint64_t *count);
 
 // Without the points that cost less than 1 to leave out: the square of the area of the triangle that goes, over
 // the side that takes its place. Of two points the first alone is left; a single one is answered twice.
 // Stack of sandline_limit_penalties: 232 bytes.
-uint8_t sandline_limit_penalties(const int32_t *points, size_t length, int32_t *out, size_t room, size_t *count);
+uint8_t sandline_limit_penalties(const int32_t *points, uint64_t length, int32_t *out, uint64_t room, uint64_t *count);
 
 // Both, one after the other: what to do with a walked outline.
 // Stack of sandline_simplify: 33,080 bytes, most of them for the list between the two.
-uint8_t sandline_simplify(const int32_t *points, size_t length, bool clockwise, int32_t *out, size_t room,
-                          size_t *count);
+uint8_t sandline_simplify(const int32_t *points, uint64_t length, bool clockwise, int32_t *out, uint64_t room,
+                          uint64_t *count);
 
 // ---- Corners: where an outline turns.
 
@@ -281,8 +276,8 @@ uint8_t sandline_simplify(const int32_t *points, size_t length, bool clockwise, 
 // c is -1,000 to 1,000, s 1 to 1,000. Room: n flags, n - 1 of a closed list.
 // Refuses too many points (2), a bad list (3), no points (4), a bad pair (7), no room (10).
 // Stack of sandline_find_corners: 56 bytes.
-uint8_t sandline_find_corners(const int32_t *points, size_t length, int32_t c, int32_t s, bool closed,
-                              uint8_t *flags, size_t room, size_t *count);
+uint8_t sandline_find_corners(const int32_t *points, uint64_t length, int32_t c, int32_t s, bool closed,
+                              uint8_t *flags, uint64_t room, uint64_t *count);
 
 // ---- Smoothing: one round of subdivision.
 
@@ -298,9 +293,9 @@ uint8_t sandline_find_corners(const int32_t *points, size_t length, int32_t c, i
 // Refuses too many points (2), a bad list (3), a closed list of fewer than 2 points (4), bad flags (6), bad settings
 // (7), no room (10); then finished holds what it held.
 // Stack of sandline_subdivide_keep_corners: 392 bytes.
-uint8_t sandline_subdivide_keep_corners(const double *points, size_t points_length, const uint8_t *corners,
-                                        size_t corners_length, double ratio, double length, bool closed,
-                                        double *out, size_t room, uint8_t *flags, size_t flag_room, size_t *count,
+uint8_t sandline_subdivide_keep_corners(const double *points, uint64_t points_length, const uint8_t *corners,
+                                        uint64_t corners_length, double ratio, double length, bool closed,
+                                        double *out, uint64_t room, uint8_t *flags, uint64_t flag_room, uint64_t *count,
                                         bool *finished);
 
 // ---- Zooms: fewer points, the wider the tolerance.
@@ -316,37 +311,37 @@ uint8_t sandline_subdivide_keep_corners(const double *points, size_t points_leng
 // The radial pass: a point is kept if it lies farther than the tolerance from the last one kept; the first and
 // the last stay. The tolerance is SQUARED, 0 to 4,294,967,296 square pixels.
 // Stack of sandline_simplify_radial_dist: 88 bytes.
-uint8_t sandline_simplify_radial_dist(const int32_t *points, size_t length, double tolerance, int32_t *out,
-                                      size_t room, size_t *count);
+uint8_t sandline_simplify_radial_dist(const int32_t *points, uint64_t length, double tolerance, int32_t *out,
+                                      uint64_t room, uint64_t *count);
 
 // Douglas-Peucker at a SQUARED tolerance, 0 to 4,294,967,296. Both ends stay; one point is answered twice.
 // After it marks starts with n bytes, 1 for each point kept and 0 for each dropped.
 // Room: n marks too. Refuses a list of no points (4) too.
 // Stack of sandline_simplify_douglas_peucker: 296 bytes, and 144 for each further level, n - 2 of them at most.
-uint8_t sandline_simplify_douglas_peucker(const int32_t *points, size_t length, double tolerance, int32_t *out,
-                                          size_t room, uint8_t *marks, size_t mark_room, size_t *count);
+uint8_t sandline_simplify_douglas_peucker(const int32_t *points, uint64_t length, double tolerance, int32_t *out,
+                                          uint64_t room, uint8_t *marks, uint64_t mark_room, uint64_t *count);
 
 // The radial pass at half the squared tolerance, then Douglas-Peucker. The tolerance is in PIXELS, 0 to 65,536.
 // Up to two points, and any list at tolerance 0, are answered whole; else scratch starts with the list that
 // the radial pass left, and marks with one byte for each point of that.
 // Room: 2n elements of scratch and n marks too.
 // Stack of sandline_reduce: 312 bytes, and 144 for each further level, n - 2 of them at most.
-uint8_t sandline_reduce(const int32_t *points, size_t length, double tolerance, int32_t *out, size_t room,
-                        int32_t *scratch, size_t scratch_room, uint8_t *marks, size_t mark_room, size_t *count);
+uint8_t sandline_reduce(const int32_t *points, uint64_t length, double tolerance, int32_t *out, uint64_t room,
+                        int32_t *scratch, uint64_t scratch_room, uint8_t *marks, uint64_t mark_room, uint64_t *count);
 
 // One number for each point: at exactly the squared tolerances below it Douglas-Peucker keeps the point. Both
 // ends have infinity. Count is n.
 // Room: n doubles, 2 where n is 1. No tolerance; refuses a list of no points (4) too.
 // Stack of sandline_numbers: 216 bytes, and 144 for each further level, n - 2 of them at most.
-uint8_t sandline_numbers(const int32_t *points, size_t length, double *out, size_t room, size_t *count);
+uint8_t sandline_numbers(const int32_t *points, uint64_t length, double *out, uint64_t room, uint64_t *count);
 
 // The points whose number is greater than a SQUARED tolerance, with both ends: what Douglas-Peucker answers at
 // that tolerance, at the cost of one comparison for each point. The numbers are those of the same list; numbers_length
 // other than n is a bad list (3).
 // Refuses a list of no points (4) too.
 // Stack of sandline_zoom: 72 bytes.
-uint8_t sandline_zoom(const int32_t *points, size_t length, const double *numbers, size_t numbers_length,
-                      double tolerance, int32_t *out, size_t room, size_t *count);
+uint8_t sandline_zoom(const int32_t *points, uint64_t length, const double *numbers, uint64_t numbers_length,
+                      double tolerance, int32_t *out, uint64_t room, uint64_t *count);
 
 // ---- Square roots.
 
@@ -364,7 +359,7 @@ uint64_t sandline_sqrt_bits(uint64_t bits);
 // nothing is written, and at itself is returned. An answer has 8 digits at least, and 32,768 at most.
 // Whatever the line holds is answered; what is no frame by ff0b0000. Out and at are in digits.
 // Stack of sandline_answer: 119,232 bytes, and 144 for each further level (frames 03 and 04).
-size_t sandline_answer(const uint8_t *line, size_t length, uint8_t *out, size_t room, size_t at);
+uint64_t sandline_answer(const uint8_t *line, uint64_t length, uint8_t *out, uint64_t room, uint64_t at);
 
 #ifdef __cplusplus
 }

@@ -83,3 +83,13 @@ need_number() { # WHAT WORD
     '' | *[!0-9]*) wrong "$1: '$2' is no whole number" ;;
     esac
 }
+
+# Ends unless this is a Cortex-M that the library is compiled for: $cpu is what compilers call it, $board the board of
+# QEMU's that runs it.
+need_cortex() { # PROCESSOR
+    case $1 in
+    thumbv7em) cpu=cortex-m4 board=mps2-an386 ;;
+    thumbv6m) cpu=cortex-m0plus board=mps2-an385 ;;
+    *) wrong "no processor '$1'; there are thumbv7em and thumbv6m" ;;
+    esac
+}

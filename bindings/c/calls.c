@@ -19,7 +19,7 @@
 #define OLD_BYTE 0xee
 #define OLD_COUNT 77
 
-static size_t count;
+static uint64_t count;
 static int32_t out[20], scratch[12], place[2];
 static uint8_t marks[8], flags[12], text[64];
 static double reals[20];
@@ -80,7 +80,7 @@ static void expect(const char *call, const char *source, const char *expected) {
 
 // Number and count of a call.
 static void put_answer(uint8_t number) {
-    put("%d %zu", number, count);
+    put("%d %llu", number, (unsigned long long)count);
 }
 
 // ---- the lists
@@ -159,8 +159,8 @@ static void walks(void) {
 }
 
 static void put_spiral(const sandline_spiral_walker *s) {
-    put(" %d %d %d %d %d %d %d %zu %zu", (int)s->x, (int)s->y, (int)s->dir, (int)s->gx, (int)s->gy, (int)s->sq,
-        (int)s->cc, s->area, s->step);
+    put(" %d %d %d %d %d %d %d %llu %llu", (int)s->x, (int)s->y, (int)s->dir, (int)s->gx, (int)s->gy, (int)s->sq,
+        (int)s->cc, (unsigned long long)s->area, (unsigned long long)s->step);
 }
 
 static void spirals(void) {
@@ -199,9 +199,9 @@ static void spirals(void) {
 
 // Reads a picture of so many bytes into so much room, and puts what comes of it.
 static void read_picture(const char *file, size_t length, size_t room) {
-    size_t width = OLD_COUNT, height = OLD_COUNT;
+    uint64_t width = OLD_COUNT, height = OLD_COUNT;
     put_answer(sandline_read_pbm((const uint8_t *)file, length, room ? flags : NULL, room, &width, &height, &count));
-    put(" %zu,%zu", width, height);
+    put(" %llu,%llu", (unsigned long long)width, (unsigned long long)height);
     put_bytes(flags, 3);
 }
 
@@ -298,7 +298,7 @@ static void geometry(void) {
         const double within[] = {1, 1, 0.5, 0.5}, half[] = {1, 1, NAN, 0.5}, away[] = {1, 1, NAN, 5};
         const double neither[] = {1, 1, NAN, NAN};
         const double *cases[] = {within, half, away, neither, within, NULL};
-        const size_t counts[] = {4, 4, 4, 4, 2, 0}; // the last two: Coincide and Parallel
+        const uint64_t counts[] = {4, 4, 4, 4, 2, 0}; // the last two: Coincide and Parallel
         for (int k = 0; k < 6; k++) put("%d", sandline_outside(cases[k], counts[k]));
         expect("sandline_outside", "01", "001000");
         for (int k = 0; k < 6; k++) put("%d", sandline_inside(cases[k], counts[k]));
@@ -526,8 +526,8 @@ static void square_roots(void) {
 }
 
 static void frame(const char *words, size_t room, size_t at) {
-    size_t next = sandline_answer((const uint8_t *)words, strlen(words), text, room, at);
-    put("%zu %.*s", next, (int)sizeof text, (const char *)text);
+    uint64_t next = sandline_answer((const uint8_t *)words, strlen(words), text, room, at);
+    put("%llu %.*s", (unsigned long long)next, (int)sizeof text, (const char *)text);
 }
 
 static void frames(void) {
@@ -543,29 +543,29 @@ static void frames(void) {
     expect("sandline_answer", "here", "4 ................................................................");
     frame("", 64, 65);
     expect("sandline_answer", "here", "65 ................................................................");
-    put("%zu", sandline_answer(NULL, 0, NULL, 0, 0));
+    put("%llu", (unsigned long long)sandline_answer(NULL, 0, NULL, 0, 0));
     expect("sandline_answer", "here", "0");
 }
 
 // The example on top of sandline.h, of one set pixel.
 static void example(void) {
-    size_t width = 1, height = 1, bytes = 1, n;
+    uint64_t width = 1, height = 1, bytes = 1, n;
     const uint8_t *pixels = one;
     static int32_t walked[8192], kept[8192];
     int32_t start[2];
     if (sandline_first_start(width, height, pixels, bytes, start) == SANDLINE_DONE &&
         sandline_walk(width, height, pixels, bytes, start[0], start[1], true, walked, 8192, &n) == SANDLINE_DONE &&
         sandline_simplify(walked, 2 * n, true, kept, 8192, &n) == SANDLINE_DONE)
-        put_values(kept, 2 * n);
+        put_values(kept, (size_t)(2 * n));
     expect("the header's example", "01, P1 and P3", " 0,0,0,0");
 }
 
 // The example of sandline_read_pbm, of a picture of one set pixel.
 static void picture_example(void) {
     const uint8_t *file = (const uint8_t *)"P1 2 1 01";
-    size_t length = 9;
+    uint64_t length = 9;
     static uint8_t pixels[32768];
-    size_t width, height, n;
+    uint64_t width, height, n;
     int32_t start[2];
     if (sandline_read_pbm(file, length, pixels, sizeof pixels, &width, &height, &n) == SANDLINE_DONE &&
         sandline_first_start(width, height, pixels, sizeof pixels, start) == SANDLINE_DONE)

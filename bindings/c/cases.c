@@ -39,8 +39,8 @@ static int32_t integer(void) {
     return (int32_t)strtol(next(), NULL, 10);
 }
 
-static size_t size(void) {
-    return (size_t)strtoull(next(), NULL, 10);
+static uint64_t size(void) {
+    return strtoull(next(), NULL, 10);
 }
 
 static bool yes(void) {
@@ -141,7 +141,7 @@ static bytes bytes_list(void) {
 }
 
 static values lend_values(void) {
-    values lent = {NULL, size()};
+    values lent = {NULL, (size_t)size()};
     size_t all = lent.length + 2 * MARGIN;
     int32_t *memory = (int32_t *)take(all * sizeof *memory);
     for (size_t k = 0; k < all; k++) memory[k] = MARKER;
@@ -150,7 +150,7 @@ static values lend_values(void) {
 }
 
 static reals lend_reals(void) {
-    reals lent = {NULL, size()};
+    reals lent = {NULL, (size_t)size()};
     size_t all = lent.length + 2 * MARGIN;
     double *memory = (double *)take(all * sizeof *memory);
     for (size_t k = 0; k < all; k++) memory[k] = MARKER;
@@ -159,7 +159,7 @@ static reals lend_reals(void) {
 }
 
 static bytes lend_bytes(void) {
-    bytes lent = {NULL, size()};
+    bytes lent = {NULL, (size_t)size()};
     size_t all = lent.length + 2 * MARGIN;
     uint8_t *memory = (uint8_t *)take(all);
     memset(memory, MARKER_BYTE, all);
@@ -210,30 +210,30 @@ static void show_bytes(bytes lent) {
 }
 
 // What a count holds before a call, to see that it is written.
-static size_t count = 77;
+static uint64_t count = 77;
 
 static void show_answer(uint8_t number) {
-    printf("%d %zu", number, count);
+    printf("%d %llu", number, (unsigned long long)count);
     count = 77;
 }
 
 // ---- the calls
 
 static void pixel(void) {
-    size_t width = size(), height = size();
+    uint64_t width = size(), height = size();
     bytes rows = bytes_list();
     int32_t x = integer(), y = integer();
     printf("%d", sandline_pixel(width, height, rows.at, rows.length, x, y));
 }
 
 static void area(void) {
-    size_t width = size(), height = size();
+    uint64_t width = size(), height = size();
     bytes rows = bytes_list();
     show_answer(sandline_area(width, height, rows.at, rows.length, &count));
 }
 
 static void first_start(void) {
-    size_t width = size(), height = size();
+    uint64_t width = size(), height = size();
     bytes rows = bytes_list();
     int32_t start[2] = {0, 0};
     uint8_t number = sandline_first_start(width, height, rows.at, rows.length, start);
@@ -242,7 +242,7 @@ static void first_start(void) {
 
 static void walk(void) {
     bool clockwise = yes();
-    size_t width = size(), height = size();
+    uint64_t width = size(), height = size();
     bytes rows = bytes_list();
     int32_t x = integer(), y = integer();
     values out = lend_values();
@@ -252,24 +252,25 @@ static void walk(void) {
 
 static void read_pbm(void) {
     bytes file = bytes_list(), pixels = lend_bytes();
-    size_t width = 0, height = 0;
+    uint64_t width = 0, height = 0;
     uint8_t number =
         sandline_read_pbm(file.at, file.length, AT(pixels), pixels.length, &width, &height, &count);
-    printf("%d %zu %zu %zu", number, width, height, count);
+    printf("%d %llu %llu %llu", number, (unsigned long long)width, (unsigned long long)height,
+           (unsigned long long)count);
     count = 77;
     show_bytes(pixels);
 }
 
 static void write_pbm(void) {
-    size_t width = size(), height = size();
+    uint64_t width = size(), height = size();
     bytes rows = bytes_list(), out = lend_bytes();
     show_answer(sandline_write_pbm(width, height, rows.at, rows.length, AT(out), out.length, &count));
     show_bytes(out);
 }
 
 static void show_spiral(const sandline_spiral_walker *s) {
-    printf(" %d %d %d %d %d %d %d %zu %zu", (int)s->x, (int)s->y, (int)s->dir, (int)s->gx, (int)s->gy, (int)s->sq,
-           (int)s->cc, s->area, s->step);
+    printf(" %d %d %d %d %d %d %d %llu %llu", (int)s->x, (int)s->y, (int)s->dir, (int)s->gx, (int)s->gy, (int)s->sq,
+           (int)s->cc, (unsigned long long)s->area, (unsigned long long)s->step);
 }
 
 static void spiral(void) {
@@ -404,7 +405,7 @@ static void mid_point(void) {
     measured(sandline_find_mid_point(points, middle), middle, 2);
 }
 
-static void show_says(const double *crossing, size_t many) {
+static void show_says(const double *crossing, uint64_t many) {
     printf("%d %d %d", sandline_outside(crossing, many), sandline_inside(crossing, many),
            sandline_coincide(crossing, many));
 }
@@ -501,8 +502,8 @@ static void answer(char *line) {
 // A frame's answer has up to 32,768 digits.
 static void answer_frame(const char *line, size_t length) {
     static uint8_t out[32768];
-    size_t digits = sandline_answer((const uint8_t *)line, length, out, sizeof out, 0);
-    fwrite(out, 1, digits, stdout);
+    uint64_t digits = sandline_answer((const uint8_t *)line, length, out, sizeof out, 0);
+    fwrite(out, 1, (size_t)digits, stdout);
 }
 
 // Reads a line of any length, without its end, into memory that grows. False at the end of the input.
