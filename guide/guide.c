@@ -1,0 +1,218 @@
+// One redraw of the guide's screen. The night survey is read out of its picture; the outline of its bank is walked and
+// simplified; every point of it gets its number, once; and by these numbers six zooms are drawn, from the whole bank to
+// eight pixels a cell where the party stands. All that it keeps stands in fixed buffers.
+#include "board.h"
+#include "sandline.h"
+#include "screen.h"
+
+// The survey, a PBM file, as the planner has handed it over: read-only memory.
+extern const uint8_t survey[], survey_end[];
+__asm__(".section .survey, \"a\"\n.global survey, survey_end\nsurvey: .incbin \"survey.pbm\"\nsurvey_end:\n.text");
+
+// Where the party stands, in cells; guide/run may say otherwise.
+#ifndef PARTY_X
+#define PARTY_X 292
+#define PARTY_Y 258
+#endif
+
+// A zigzag of so many points is worked on first, to see how deep the stack lets splits go.
+#ifndef ZIGZAG
+#define ZIGZAG 0
+#endif
+
+enum { MOST_POINTS = 4096, MOST_VALUES = 2 * MOST_POINTS, ZOOMS = 6 };
+
+static uint8_t chart[512 / 8 * 512];
+static uint64_t width, height;
+static int32_t walked[MOST_VALUES]; // the outline; once it is simplified, what a zoom keeps, and the picture of the screen
+static int32_t kept[MOST_VALUES];   // the outline, simplified
+static double numbers[MOST_POINTS]; // the number of each of its points
+static uint64_t points;             // how many it has
+
+// ---- what is told of a step
+
+static void said(const char *what, uint64_t number) {
+    say(what);
+    say_number((uint32_t)number);
+}
+
+static uint32_t in_all;
+
+static void took(const char *step, uint32_t instructions) {
+    in_all += instructions;
+    said(step, instructions);
+    said(" instructions, stack ", stack_used());
+}
+
+// Nothing is drawn of a survey that is refused: the screen would show the last one, and say which number this got.
+static void need(uint8_t number, const char *call) {
+    if (number == SANDLINE_DONE) return;
+    say("guide: ");
+    say(call);
+    said(" is refused: ", number);
+    say("\n");
+    end(2);
+}
+
+// ---- six zooms
+
+// A zoom shows 2 to the power of `zoom` pixels for four cells, and leaves out what is nearer than a pixel to the line
+// that it draws.
+static const double squared_tolerances[ZOOMS] = {16, 4, 1, 1.0 / 4, 1.0 / 16, 1.0 / 64};
+static const char *const scales[ZOOMS] = {"1/4", "1/2", "1", "2", "4", "8"};
+
+typedef struct {
+    window in;
+    int zoom;
+    int x, y; // the cell in its middle
+} view;
+
+static int scaled(int cells, int zoom) {
+    return cells * (1 << zoom) / 4;
+}
+
+static int screen_x(const view *v, int x) {
+    return v->in.left + v->in.width / 2 + scaled(x - v->x, v->zoom);
+}
+
+static int screen_y(const view *v, int y) {
+    return v->in.top + v->in.height / 2 + scaled(y - v->y, v->zoom);
+}
+
+// A dot every four pixels where the survey has sand.
+static void draw_sand(const view *v) {
+    const int middle_x = v->in.width / 2, middle_y = v->in.height / 2;
+    for (int y = 2; y < v->in.height; y += 4)
+        for (int x = 2; x < v->in.width; x += 4) {
+            const int cell_x = v->x + ((x - middle_x) * 4 >> v->zoom), cell_y = v->y + ((y - middle_y) * 4 >> v->zoom);
+            if (sandline_pixel(width, height, chart, sizeof chart, cell_x, cell_y))
+                draw_pixel(&v->in, v->in.left + x, v->in.top + y);
+        }
+}
+
+static void draw_outline(const view *v, const int32_t *list, uint64_t many) {
+    for (uint64_t k = 1; k < many; k++)
+        draw_line(&v->in, screen_x(v, list[2 * k - 2]), screen_y(v, list[2 * k - 1]), screen_x(v, list[2 * k]),
+                  screen_y(v, list[2 * k + 1]));
+}
+
+// The points of the widest zoom, which every nearer one has too. (There they are all of its corners.)
+static void draw_lasting_points(const view *v) {
+    if (v->zoom == 0) return;
+    for (uint64_t k = 0; k < points; k++)
+        if (numbers[k] > squared_tolerances[0])
+            draw_box(&v->in, screen_x(v, kept[2 * k]) - 1, screen_y(v, kept[2 * k + 1]) - 1, 3, 3, true);
+}
+
+// Its scale on the left, how many points it draws on the right.
+static void draw_label(const view *v, uint64_t many) {
+    const int left = v->in.left, right = left + v->in.width, top = v->in.top;
+    draw_box(&v->in, left, top, 17, 9, false);
+    draw_text(&v->in, left + 2, top + 2, scales[v->zoom]);
+    draw_box(&v->in, right - 19, top, 19, 9, false);
+    draw_number(&v->in, right - 17, top + 2, (uint32_t)many);
+}
+
+static void draw_party(const view *v, int x, int y) {
+    const int at_x = screen_x(v, x), at_y = screen_y(v, y);
+    draw_box(&v->in, at_x - 4, at_y - 4, 9, 9, false);
+    draw_line(&v->in, at_x - 3, at_y, at_x + 3, at_y);
+    draw_line(&v->in, at_x, at_y - 3, at_x, at_y + 3);
+}
+
+// Three beside each other, two rows, black between them. The widest has the chart's middle in its own, the others the
+// party.
+static view view_of(int zoom, int x, int y) {
+    const view v = {{134 * (zoom % 3), 121 * (zoom / 3), 132, 119}, zoom, x, y};
+    return v;
+}
+
+static void draw_frames(void) {
+    const window all = {0, 0, SCREEN_WIDTH, SCREEN_HEIGHT};
+    draw_box(&all, 132, 0, 2, SCREEN_HEIGHT, true);
+    draw_box(&all, 266, 0, 2, SCREEN_HEIGHT, true);
+    draw_box(&all, 0, 119, SCREEN_WIDTH, 2, true);
+}
+
+static void draw(int zoom, const int32_t *list, uint64_t many) {
+    const int party_x = PARTY_X, party_y = PARTY_Y;
+    const view v = zoom == 0 ? view_of(zoom, (int)width / 2, (int)height / 2) : view_of(zoom, party_x, party_y);
+    draw_sand(&v);
+    draw_party(&v, party_x, party_y);
+    draw_outline(&v, list, many);
+    draw_lasting_points(&v);
+    draw_label(&v, many);
+}
+
+// The numbers of a zigzag of which each split takes one point off: so deep do its splits go.
+static void zigzag(int32_t many) {
+    uint64_t length;
+    for (int32_t k = 0; k < many; k++) {
+        walked[2 * k] = k;
+        walked[2 * k + 1] = k % 2 * k;
+    }
+    const uint32_t time = now();
+    need(sandline_numbers(walked, 2 * (uint64_t)many, numbers, MOST_POINTS, &length), "the zigzag");
+    took("zigzag     ", instructions_since(time));
+    said(", ", length);
+    say(" points\n");
+}
+
+int main(void) {
+    int32_t start[2];
+    uint64_t length, shown[ZOOMS];
+    uint32_t time, zooming = 0, drawing = 0;
+
+    if (ZIGZAG > 0) zigzag(ZIGZAG);
+
+    time = now();
+    need(sandline_read_pbm(survey, (uint64_t)(survey_end - survey), chart, sizeof chart, &width, &height, &length),
+         "the survey");
+    took("read       ", instructions_since(time));
+    said(", ", width);
+    said(" by ", height);
+
+    time = now();
+    need(sandline_first_start(width, height, chart, sizeof chart, start), "the first start");
+    need(sandline_walk(width, height, chart, sizeof chart, start[0], start[1], true, walked, MOST_VALUES, &length),
+         "the walk");
+    took(" cells\nwalk       ", instructions_since(time));
+    said(", ", length);
+
+    time = now();
+    need(sandline_simplify(walked, 2 * length, true, kept, MOST_VALUES, &points), "simplification");
+    took(" points\nsimplify   ", instructions_since(time));
+    said(", ", points);
+
+    time = now();
+    need(sandline_numbers(kept, 2 * points, numbers, MOST_POINTS, &length), "numbers");
+    took(" points\nnumbers    ", instructions_since(time));
+
+    time = now();
+    clear_screen();
+    draw_frames();
+    drawing += instructions_since(time);
+    for (int zoom = 0; zoom < ZOOMS; zoom++) {
+        time = now();
+        need(sandline_zoom(kept, 2 * points, numbers, points, squared_tolerances[zoom], walked, MOST_VALUES, &length),
+             "a zoom");
+        zooming += instructions_since(time);
+        time = now();
+        draw(zoom, walked, length);
+        drawing += instructions_since(time);
+        shown[zoom] = length;
+    }
+    took("\nsix zooms  ", zooming);
+    for (int zoom = 0; zoom < ZOOMS; zoom++) said(zoom ? " " : ", ", shown[zoom]);
+    took(" points\ndrawing    ", drawing);
+    said("\nin all     ", in_all);
+    said(" instructions\nstack      ", stack_used());
+    said(" of ", stack_room());
+    said(" bytes\nleft       ", memory_left());
+    say(" bytes of memory\n");
+
+    need(sandline_write_pbm(SCREEN_WIDTH, SCREEN_HEIGHT, screen, sizeof screen, (uint8_t *)walked, sizeof walked, &length),
+         "the picture of the screen");
+    save("screen.pbm", (const uint8_t *)walked, (size_t)length);
+    return 0;
+}
