@@ -1,6 +1,7 @@
 //! Charts: a pixel, the area, and where a walk may begin.
 
-use crate::refusal::answered;
+use crate::lent::{lent, wide};
+use crate::refusal::{answered, counted};
 use crate::{raw, Point, Refusal};
 
 /// A bitmap, 1 to 512 pixels wide and high: rows from the top, each padded to whole bytes, one bit a pixel,
@@ -23,8 +24,8 @@ impl Chart<'_> {
     /// assert!(chart.pixel(1, 1) && !chart.pixel(1, 0) && !chart.pixel(-1, 0));
     /// ```
     pub fn pixel(&self, x: i32, y: i32) -> bool {
-        let (pixels, bytes) = (self.pixels.as_ptr(), self.pixels.len());
-        unsafe { raw::sandline_pixel(self.width, self.height, pixels, bytes, x, y) }
+        let (width, height, pixels, bytes) = self.lent();
+        unsafe { raw::sandline_pixel(width, height, pixels, bytes, x, y) }
     }
 
     /// How many pixels are set.
@@ -35,10 +36,8 @@ impl Chart<'_> {
     /// assert_eq!(Chart { width: 9, height: 1, pixels: &[0xff] }.area(), Err(Refusal::BadSize));
     /// ```
     pub fn area(&self) -> Result<usize, Refusal> {
-        let (pixels, bytes) = (self.pixels.as_ptr(), self.pixels.len());
-        answered(0, |count| unsafe {
-            raw::sandline_area(self.width, self.height, pixels, bytes, count)
-        })
+        let (width, height, pixels, bytes) = self.lent();
+        counted(|count| unsafe { raw::sandline_area(width, height, pixels, bytes, count) })
     }
 
     /// Where a walk may begin: the top left corner of the first set pixel, row by row.
@@ -49,9 +48,15 @@ impl Chart<'_> {
     /// assert_eq!(Chart { width: 2, height: 1, pixels: &[0x3f] }.first_start(), Err(Refusal::NoWay));
     /// ```
     pub fn first_start(&self) -> Result<Point, Refusal> {
-        let (pixels, bytes) = (self.pixels.as_ptr(), self.pixels.len());
+        let (width, height, pixels, bytes) = self.lent();
         answered([0; 2], |start| unsafe {
-            raw::sandline_first_start(self.width, self.height, pixels, bytes, start)
+            raw::sandline_first_start(width, height, pixels, bytes, start)
         })
+    }
+
+    /// As the calls take it: width, height, and the pixels with their length.
+    pub(crate) fn lent(&self) -> (u64, u64, *const u8, u64) {
+        let (pixels, bytes) = lent(self.pixels);
+        (wide(self.width), wide(self.height), pixels, bytes)
     }
 }

@@ -1,6 +1,7 @@
 //! Corners: where an outline turns.
 
-use crate::refusal::answered;
+use crate::lent::{lent, lent_mut};
+use crate::refusal::counted;
 use crate::{raw, Point, Refusal};
 
 /// The angle from which on a turn is a corner: `c` and `s` are proportional to its cosine and sine, so that
@@ -32,17 +33,9 @@ pub fn find_corners(
     closed: bool,
     flags: &mut [u8],
 ) -> Result<usize, Refusal> {
-    let points = points.as_flattened();
-    answered(0, |count| unsafe {
-        raw::sandline_find_corners(
-            points.as_ptr(),
-            points.len(),
-            pair.c,
-            pair.s,
-            closed,
-            flags.as_mut_ptr(),
-            flags.len(),
-            count,
-        )
+    let (points, length) = lent(points.as_flattened());
+    let (flags, room) = lent_mut(flags);
+    counted(|count| unsafe {
+        raw::sandline_find_corners(points, length, pair.c, pair.s, closed, flags, room, count)
     })
 }

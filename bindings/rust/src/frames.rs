@@ -1,5 +1,6 @@
 //! Frames: a call as a line of hexadecimal digits.
 
+use crate::lent::{lent, lent_mut, narrow, wide};
 use crate::raw;
 
 /// Puts the answer to a frame, a line of hexadecimal digits with no end of line, into `out` from `at` on,
@@ -15,7 +16,8 @@ use crate::raw;
 /// assert_eq!(sandline::answer(b"no frame", &mut out, 43), None);
 /// ```
 pub fn answer(line: &[u8], out: &mut [u8], at: usize) -> Option<usize> {
-    let next =
-        unsafe { raw::sandline_answer(line.as_ptr(), line.len(), out.as_mut_ptr(), out.len(), at) };
+    let (line, length) = lent(line);
+    let (out, room) = lent_mut(out);
+    let next = narrow(unsafe { raw::sandline_answer(line, length, out, room, wide(at)) });
     (next != at).then_some(next)
 }

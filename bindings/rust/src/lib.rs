@@ -43,6 +43,10 @@
 //! `tools/archive FOLDER` makes the archive, and `SANDLINE_ARCHIVE=FOLDER cargo build` links it. This crate has no
 //! dependencies and does without the standard library.
 //!
+//! The archive may be one for a Cortex-M: `tools/archive FOLDER thumbv7em` makes it for an M4 or M7, and `thumbv6m`
+//! for an M0 or M0+. It is compiled for soft floats: build for `thumbv7em-none-eabi` or `thumbv6m-none-eabi`, and for
+//! no target that ends in `eabihf`. tools/archive says what else it asks of the program.
+//!
 //! The repository's include/sandline.h says what stack each call takes. [`numbers`],
 //! [`simplify_douglas_peucker`] and [`reduce()`] call themselves, at worst as deep as the list is long.
 #![no_std]
@@ -51,6 +55,7 @@
 mod chart;
 mod corners;
 mod frames;
+mod lent;
 mod pbm;
 mod raw;
 mod reduce;

@@ -1,6 +1,7 @@
 //! Pictures: charts out of Netpbm's PBM files, and into them.
 
-use crate::refusal::{answered, handed};
+use crate::lent::{lent, lent_mut, narrow};
+use crate::refusal::{answered, counted};
 use crate::{raw, Chart, Refusal};
 
 /// What [`read_pbm`] answers.
@@ -39,20 +40,14 @@ pub struct Picture<'a> {
 /// # Ok::<(), Refusal>(())
 /// ```
 pub fn read_pbm<'a>(file: &[u8], pixels: &'a mut [u8]) -> Result<Picture<'a>, Refusal> {
-    let (mut width, mut height, mut bytes) = (0, 0, 0);
-    let number = unsafe {
-        raw::sandline_read_pbm(
-            file.as_ptr(),
-            file.len(),
-            pixels.as_mut_ptr(),
-            pixels.len(),
-            &mut width,
-            &mut height,
-            &mut bytes,
-        )
-    };
+    let (file, length) = lent(file);
+    let (rows, room) = lent_mut(pixels);
+    let sizes = answered([0; 3], |[width, height, count]| unsafe {
+        raw::sandline_read_pbm(file, length, rows, room, width, height, count)
+    })?;
+    let [width, height, bytes] = sizes.map(narrow);
     let pixels = &pixels[..width.div_ceil(8) * height];
-    handed(number, Picture { chart: Chart { width, height, pixels }, bytes })
+    Ok(Picture { chart: Chart { width, height, pixels }, bytes })
 }
 
 /// Writes a chart to the start of `out` as a raw picture, with its padding cleared, and answers how many
@@ -74,16 +69,9 @@ pub fn read_pbm<'a>(file: &[u8], pixels: &'a mut [u8]) -> Result<Picture<'a>, Re
 /// # Ok::<(), Refusal>(())
 /// ```
 pub fn write_pbm(chart: Chart, out: &mut [u8]) -> Result<usize, Refusal> {
-    let Chart { width, height, pixels } = chart;
-    answered(0, |count| unsafe {
-        raw::sandline_write_pbm(
-            width,
-            height,
-            pixels.as_ptr(),
-            pixels.len(),
-            out.as_mut_ptr(),
-            out.len(),
-            count,
-        )
+    let (width, height, pixels, bytes) = chart.lent();
+    let (out, room) = lent_mut(out);
+    counted(|count| unsafe {
+        raw::sandline_write_pbm(width, height, pixels, bytes, out, room, count)
     })
 }

@@ -1,6 +1,7 @@
 //! Zooms: fewer points, the wider the tolerance.
 
-use crate::refusal::answered;
+use crate::lent::{lent, lent_mut};
+use crate::refusal::counted;
 use crate::{raw, Point, Refusal};
 
 /// The radial pass: keeps a point if it lies farther than the tolerance from the last one kept, and the
@@ -20,16 +21,10 @@ pub fn simplify_radial_dist(
     sq_tolerance: f64,
     out: &mut [Point],
 ) -> Result<usize, Refusal> {
-    let (points, out) = (points.as_flattened(), out.as_flattened_mut());
-    answered(0, |count| unsafe {
-        raw::sandline_simplify_radial_dist(
-            points.as_ptr(),
-            points.len(),
-            sq_tolerance,
-            out.as_mut_ptr(),
-            out.len(),
-            count,
-        )
+    let (points, length) = lent(points.as_flattened());
+    let (out, room) = lent_mut(out.as_flattened_mut());
+    counted(|count| unsafe {
+        raw::sandline_simplify_radial_dist(points, length, sq_tolerance, out, room, count)
     })
 }
 
@@ -52,16 +47,18 @@ pub fn simplify_douglas_peucker(
     out: &mut [Point],
     marks: &mut [u8],
 ) -> Result<usize, Refusal> {
-    let (points, out) = (points.as_flattened(), out.as_flattened_mut());
-    answered(0, |count| unsafe {
+    let (points, length) = lent(points.as_flattened());
+    let (out, room) = lent_mut(out.as_flattened_mut());
+    let (marks, mark_room) = lent_mut(marks);
+    counted(|count| unsafe {
         raw::sandline_simplify_douglas_peucker(
-            points.as_ptr(),
-            points.len(),
+            points,
+            length,
             sq_tolerance,
-            out.as_mut_ptr(),
-            out.len(),
-            marks.as_mut_ptr(),
-            marks.len(),
+            out,
+            room,
+            marks,
+            mark_room,
             count,
         )
     })
@@ -87,19 +84,21 @@ pub fn reduce(
     scratch: &mut [Point],
     marks: &mut [u8],
 ) -> Result<usize, Refusal> {
-    let (points, out) = (points.as_flattened(), out.as_flattened_mut());
-    let scratch = scratch.as_flattened_mut();
-    answered(0, |count| unsafe {
+    let (points, length) = lent(points.as_flattened());
+    let (out, room) = lent_mut(out.as_flattened_mut());
+    let (scratch, scratch_room) = lent_mut(scratch.as_flattened_mut());
+    let (marks, mark_room) = lent_mut(marks);
+    counted(|count| unsafe {
         raw::sandline_reduce(
-            points.as_ptr(),
-            points.len(),
+            points,
+            length,
             tolerance,
-            out.as_mut_ptr(),
-            out.len(),
-            scratch.as_mut_ptr(),
-            scratch.len(),
-            marks.as_mut_ptr(),
-            marks.len(),
+            out,
+            room,
+            scratch,
+            scratch_room,
+            marks,
+            mark_room,
             count,
         )
     })
@@ -117,10 +116,9 @@ pub fn reduce(
 /// assert_eq!(out, [f64::INFINITY, 16.0, 16.0, f64::INFINITY]);
 /// ```
 pub fn numbers(points: &[Point], out: &mut [f64]) -> Result<usize, Refusal> {
-    let points = points.as_flattened();
-    answered(0, |count| unsafe {
-        raw::sandline_numbers(points.as_ptr(), points.len(), out.as_mut_ptr(), out.len(), count)
-    })
+    let (points, length) = lent(points.as_flattened());
+    let (out, room) = lent_mut(out);
+    counted(|count| unsafe { raw::sandline_numbers(points, length, out, room, count) })
 }
 
 /// Puts the points whose number is greater than a squared tolerance, with both ends, at the start of `out`:
@@ -144,17 +142,10 @@ pub fn zoom(
     sq_tolerance: f64,
     out: &mut [Point],
 ) -> Result<usize, Refusal> {
-    let (points, out) = (points.as_flattened(), out.as_flattened_mut());
-    answered(0, |count| unsafe {
-        raw::sandline_zoom(
-            points.as_ptr(),
-            points.len(),
-            numbers.as_ptr(),
-            numbers.len(),
-            sq_tolerance,
-            out.as_mut_ptr(),
-            out.len(),
-            count,
-        )
+    let (points, length) = lent(points.as_flattened());
+    let (numbers, numbers_length) = lent(numbers);
+    let (out, room) = lent_mut(out.as_flattened_mut());
+    counted(|count| unsafe {
+        raw::sandline_zoom(points, length, numbers, numbers_length, sq_tolerance, out, room, count)
     })
 }

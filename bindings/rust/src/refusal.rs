@@ -1,5 +1,6 @@
 //! Why a call hands nothing out.
 
+use crate::lent::narrow;
 use core::fmt;
 
 /// Why a call hands nothing out, with document 01's numbers. Where several apply the lowest is given, but
@@ -91,6 +92,11 @@ impl fmt::Display for Refusal {
 }
 
 impl core::error::Error for Refusal {}
+
+/// What a call answers that puts a count in place of the one it is lent.
+pub(crate) fn counted(call: impl FnOnce(&mut u64) -> u8) -> Result<usize, Refusal> {
+    answered(0, call).map(narrow)
+}
 
 /// What a call answers that puts its answer in place of the one it is lent.
 pub(crate) fn answered<T>(mut answer: T, call: impl FnOnce(&mut T) -> u8) -> Result<T, Refusal> {

@@ -3,7 +3,8 @@
 //! Each call puts what is left at the start of `out` and answers how many points that is. It asks for
 //! `places(points.len())` places.
 
-use crate::refusal::answered;
+use crate::lent::{lent, lent_mut};
+use crate::refusal::counted;
 use crate::{raw, Point, Refusal};
 
 /// Leaves out one-pixel staircases. `clockwise` says which way round the list goes.
@@ -21,16 +22,10 @@ pub fn remove_staircase(
     clockwise: bool,
     out: &mut [Point],
 ) -> Result<usize, Refusal> {
-    let (points, out) = (points.as_flattened(), out.as_flattened_mut());
-    answered(0, |count| unsafe {
-        raw::sandline_remove_staircase(
-            points.as_ptr(),
-            points.len(),
-            clockwise,
-            out.as_mut_ptr(),
-            out.len(),
-            count,
-        )
+    let (points, length) = lent(points.as_flattened());
+    let (out, room) = lent_mut(out.as_flattened_mut());
+    counted(|count| unsafe {
+        raw::sandline_remove_staircase(points, length, clockwise, out, room, count)
     })
 }
 
@@ -48,16 +43,9 @@ pub fn remove_staircase(
 /// assert_eq!(limit_penalties(&[[7, 7]], &mut out[..1]), Err(Refusal::NoRoom));
 /// ```
 pub fn limit_penalties(points: &[Point], out: &mut [Point]) -> Result<usize, Refusal> {
-    let (points, out) = (points.as_flattened(), out.as_flattened_mut());
-    answered(0, |count| unsafe {
-        raw::sandline_limit_penalties(
-            points.as_ptr(),
-            points.len(),
-            out.as_mut_ptr(),
-            out.len(),
-            count,
-        )
-    })
+    let (points, length) = lent(points.as_flattened());
+    let (out, room) = lent_mut(out.as_flattened_mut());
+    counted(|count| unsafe { raw::sandline_limit_penalties(points, length, out, room, count) })
 }
 
 /// Both, one after the other: what to do with a walked outline.
@@ -71,15 +59,7 @@ pub fn limit_penalties(points: &[Point], out: &mut [Point]) -> Result<usize, Ref
 /// assert_eq!(out, square);
 /// ```
 pub fn simplify(points: &[Point], clockwise: bool, out: &mut [Point]) -> Result<usize, Refusal> {
-    let (points, out) = (points.as_flattened(), out.as_flattened_mut());
-    answered(0, |count| unsafe {
-        raw::sandline_simplify(
-            points.as_ptr(),
-            points.len(),
-            clockwise,
-            out.as_mut_ptr(),
-            out.len(),
-            count,
-        )
-    })
+    let (points, length) = lent(points.as_flattened());
+    let (out, room) = lent_mut(out.as_flattened_mut());
+    counted(|count| unsafe { raw::sandline_simplify(points, length, clockwise, out, room, count) })
 }

@@ -1,6 +1,7 @@
 //! Smoothing: one round of subdivision.
 
-use crate::refusal::handed;
+use crate::lent::{lent, lent_mut, narrow};
+use crate::refusal::answered;
 use crate::{raw, PointF64, Refusal};
 
 /// What a round of subdivision goes by.
@@ -45,24 +46,26 @@ pub fn subdivide_keep_corners(
     out: &mut [PointF64],
     flags: &mut [u8],
 ) -> Result<Subdivided, Refusal> {
-    let (points, out) = (points.as_flattened(), out.as_flattened_mut());
-    let mut round = Subdivided { points: 0, finished: false };
-    let number = unsafe {
+    let (points, points_length) = lent(points.as_flattened());
+    let (corners, corners_length) = lent(corners);
+    let (out, room) = lent_mut(out.as_flattened_mut());
+    let (flags, flag_room) = lent_mut(flags);
+    let (count, finished) = answered((0, false), |(count, finished)| unsafe {
         raw::sandline_subdivide_keep_corners(
-            points.as_ptr(),
-            points.len(),
-            corners.as_ptr(),
-            corners.len(),
+            points,
+            points_length,
+            corners,
+            corners_length,
             settings.ratio,
             settings.length,
             closed,
-            out.as_mut_ptr(),
-            out.len(),
-            flags.as_mut_ptr(),
-            flags.len(),
-            &mut round.points,
-            &mut round.finished,
+            out,
+            room,
+            flags,
+            flag_room,
+            count,
+            finished,
         )
-    };
-    handed(number, round)
+    })?;
+    Ok(Subdivided { points: narrow(count), finished })
 }

@@ -1,5 +1,6 @@
 //! Spirals: a square of pixels, one by one from its centre outwards.
 
+use crate::lent::wide;
 use crate::refusal::{answered, handed};
 use crate::{raw, Point, Refusal};
 
@@ -23,9 +24,9 @@ pub struct Spiral {
     /// 0 to `sq - 1`.
     pub cc: i32,
     /// Up to 262,144.
-    pub area: usize,
+    pub area: u64,
     /// Up to `area`.
-    pub step: usize,
+    pub step: u64,
 }
 
 impl Spiral {
@@ -44,7 +45,7 @@ impl Spiral {
     pub fn new(size: usize) -> Result<Spiral, Refusal> {
         answered(
             Spiral { x: 0, y: 0, dir: 0, gx: 0, gy: 0, sq: 0, cc: 0, area: 0, step: 0 },
-            |spiral| unsafe { raw::sandline_spiral(size, spiral) },
+            |spiral| unsafe { raw::sandline_spiral(wide(size), spiral) },
         )
     }
 

@@ -115,7 +115,7 @@ impl Intersection {
     }
 
     /// As the calls take it: values, and how many count.
-    fn values(&self) -> ([f64; 4], usize) {
+    fn values(&self) -> ([f64; 4], u64) {
         match *self {
             Intersection::Parallel => ([0.0; 4], 0),
             Intersection::Coincide([x, y]) => ([x, y, 0.0, 0.0], 2),

@@ -1,6 +1,7 @@
 //! Walks along the outline of what is set.
 
-use crate::refusal::answered;
+use crate::lent::lent_mut;
+use crate::refusal::counted;
 use crate::{raw, Chart, Point, Refusal};
 
 impl Chart<'_> {
@@ -32,21 +33,11 @@ impl Chart<'_> {
     /// assert_eq!(chart.walk([0, 0], false, &mut out), Ok(8));
     /// ```
     pub fn walk(&self, start: Point, clockwise: bool, out: &mut [Point]) -> Result<usize, Refusal> {
-        let (pixels, bytes) = (self.pixels.as_ptr(), self.pixels.len());
-        let out = out.as_flattened_mut();
-        answered(0, |count| unsafe {
-            raw::sandline_walk(
-                self.width,
-                self.height,
-                pixels,
-                bytes,
-                start[0],
-                start[1],
-                clockwise,
-                out.as_mut_ptr(),
-                out.len(),
-                count,
-            )
+        let (width, height, pixels, bytes) = self.lent();
+        let (out, room) = lent_mut(out.as_flattened_mut());
+        let [x, y] = start;
+        counted(|count| unsafe {
+            raw::sandline_walk(width, height, pixels, bytes, x, y, clockwise, out, room, count)
         })
     }
 }
