@@ -90,6 +90,12 @@ uint32_t instructions_since(uint32_t time) {
 
 enum { PAINT = 0x5a5aa5a5 };
 
+// What lies under this call's own few words is free.
+void paint_stack(void) {
+    uint32_t *const free_to = (uint32_t *)__builtin_frame_address(0) - 16;
+    for (uint32_t *to = stack_bottom; to < free_to; to++) *to = PAINT;
+}
+
 size_t stack_room(void) {
     return (size_t)((char *)stack_top - (char *)stack_bottom);
 }
@@ -104,18 +110,17 @@ size_t memory_left(void) {
     return (size_t)bytes_left;
 }
 
-// Memory as C has it, the stack painted, and main on that stack. This one runs on the stack for faults.
+// Memory as C has it, and main on the stack that is meant for it. This one runs on the stack for faults.
 void reset(void) {
     const uint32_t *from = data_image;
     for (uint32_t *to = data_start; to < data_end; to++) *to = *from++;
     for (uint32_t *to = bss_start; to < bss_end; to++) *to = 0;
-    for (uint32_t *to = stack_bottom; to < stack_top; to++) *to = PAINT;
     start_clock();
     __asm__ volatile("msr psp, %0\n\tmsr control, %1\n\tisb" : : "r"(stack_top), "r"(2) : "memory");
     end(main());
 }
 
-// An instruction that cannot be done. The library has none, so it is the stack that has run out, or the program is wrong.
+// An instruction that cannot be done. The library has none: so the stack has run out, or the guide's own code is wrong.
 void fault(void) {
     uintptr_t stack;
     __asm__ volatile("mrs %0, psp" : "=r"(stack));

@@ -19,7 +19,9 @@ __attribute__((noreturn)) void end(int status);
 uint32_t now(void);
 uint32_t instructions_since(uint32_t time);
 
-// Bytes of the stack that have been written since the program began, as far down as any call went; and bytes in all.
+// Paints what is free of the stack. Bytes of it that are in use or have been since it was painted, as far down as any
+// call went; and bytes in all.
+void paint_stack(void);
 size_t stack_used(void);
 size_t stack_room(void);
 

@@ -1,5 +1,5 @@
-// The guide's screen: 400 by 240 pixels, one bit each, a set one black. It lies in memory as a chart does: rows from the
-// top, the leftmost pixel of a byte the highest bit.
+// The guide's screen: 400 by 240 pixels, one bit each, a set one black. It lies in memory as a chart does: rows from
+// the top, the leftmost pixel of a byte the highest bit.
 #ifndef SCREEN_H
 #define SCREEN_H
 

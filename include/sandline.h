@@ -1,8 +1,10 @@
 // Sandline for C and C++: outlines of bitmaps, simplified so that zooms nest.
 //
-// tools/archive FOLDER makes FOLDER/libsandline_c.a. Of the C library it calls memset alone; it allocates
-// nothing, keeps nothing between calls, reads and writes no file, and sets no errno. So calls may run at the
-// same time on several threads, as long as what one of them writes is lent to no other.
+// tools/archive FOLDER makes FOLDER/libsandline_c.a for the processor at hand, and tools/archive FOLDER thumbv7em (or
+// thumbv6m) for a Cortex-M4 (or a Cortex-M0+). Of the C library it calls memset alone; on a Cortex-M also libgcc's
+// routines for doubles and 64 bits (tools/archive says which, and what else a firmware owes). It allocates nothing,
+// keeps nothing between calls, reads and writes no file, and sets no errno. So calls may run at the same time on
+// several threads, as long as what one of them writes is lent to no other.
 //
 // Every call comes back, for every input that keeps to "What you owe" below. What is right is said by
 // docs/01-scope.md ("document 01"), and it is proved that the code under these calls does it.
@@ -32,6 +34,9 @@
 // that is answered IS IN POINTS (or in what the call says), so count points fill 2 * count elements.
 //
 // A closed list ends with the point that it begins with. Flags are bytes, 1 or 0.
+//
+// Sizes, lengths, rooms and counts are uint64_t on every processor, also where a size_t has 32 bits: a count is lent as
+// the address of a uint64_t.
 //
 // WHAT EVERY CALL HAS IN COMMON
 //
@@ -66,8 +71,13 @@
 // STACK
 //
 // Bytes are those of the x86-64 code at -O3: all frames along the deepest path with their return addresses, without
-// what memset takes (tools/stack prints them). Other processors take other frames. Douglas-Peucker and the numbers call
-// themselves, by levels: a list whose every split takes one point off goes as deep as it is long, a shore far less.
+// what memset takes (tools/stack prints them). docs/COST.md has what each call was seen to take of a Cortex-M.
+//
+// Douglas-Peucker and the numbers call themselves, by levels: a list whose every split takes one point off goes as deep
+// as it is long, a shore far less. NOTHING STOPS A LIST THAT GOES DEEPER THAN THE STACK HOLDS: the call then writes
+// past the end of the stack. A level takes 144 bytes on x86-64 and on a Cortex-M4, 160 on a Cortex-M0+. The guide, with
+// 114 KiB for its stack, can have the numbers of every list of 808 points (727 on a Cortex-M0+); of what goes deeper it
+// makes a fault (guide/README.md).
 #ifndef SANDLINE_H
 #define SANDLINE_H
 
