@@ -103,8 +103,8 @@ static void set(uint8_t *chart, int x, int y) {
     chart[y * ROW + x / 8] |= (uint8_t)(0x80 >> x % 8);
 }
 
-// The coast, a ragged island that fills its chart. The diamond, all of whose edges are stairs of one pixel: of the
-// outlines tried the one that costs most.
+// The coast, a ragged island that fills its chart; and the diamond, all of whose edges are stairs of one pixel, which
+// costs some thirty times as much to simplify.
 static void draw_charts(void) {
     for (int y = 0; y < SIDE; y++)
         for (int x = 0; x < SIDE; x++) {
