@@ -2,29 +2,17 @@
 
 use std::collections::BTreeMap;
 
-/// The functions of a program by where they begin, and the name of the instruction at each address.
-pub struct Code {
-    functions: Vec<(u64, String)>,
-    instructions: BTreeMap<u64, String>,
-}
+/// The functions of a program, by where they begin.
+pub struct Code(Vec<(u64, String)>);
 
 impl Code {
-    /// Reads what objdump writes: a line `ADDRESS <FUNCTION>:` for each function, and a line `ADDRESS: NAME ..`
-    /// for each instruction.
+    /// Reads what objdump writes: a line `ADDRESS <FUNCTION>:` for each function.
     pub fn read(text: &str) -> Code {
-        let at = |word: &str| u64::from_str_radix(word, 16).ok();
         let function = |line: &str| {
             let (address, name) = line.strip_suffix(">:")?.split_once(" <")?;
-            Some((at(address)?, name.to_string()))
+            Some((u64::from_str_radix(address, 16).ok()?, name.to_string()))
         };
-        let instruction = |line: &str| {
-            let (address, rest) = line.trim_start().split_once(":\t")?;
-            Some((at(address)?, rest.split_whitespace().next()?.to_string()))
-        };
-        Code {
-            functions: text.lines().filter_map(function).collect(),
-            instructions: text.lines().filter_map(instruction).collect(),
-        }
+        Code(text.lines().filter_map(function).collect())
     }
 }
 
@@ -62,14 +50,7 @@ impl Runs {
 
     /// How often functions of such a name were called: how often the first instruction of each ran.
     pub fn calls(&self, code: &Code, is_it: impl Fn(&str) -> bool) -> u64 {
-        let functions = code.functions.iter().filter(|(_, name)| is_it(name));
+        let functions = code.0.iter().filter(|(_, name)| is_it(name));
         functions.filter_map(|(address, _)| self.0.get(address)).sum()
-    }
-
-    /// How often instructions of these names ran.
-    pub fn of_names(&self, code: &Code, names: &[&str]) -> u64 {
-        let is_it =
-            |address| code.instructions.get(address).is_some_and(|at| names.contains(&at.as_str()));
-        self.0.iter().filter(|(address, _)| is_it(address)).map(|(_, count)| count).sum()
     }
 }

@@ -4,14 +4,12 @@
 //!                                     of each part, one a line: a part is one call on one list by one side
 //!     bench count TOLERANCES WORD..   the same parts in the same order, for callgrind
 //!     bench table FOLDER              makes one table of what these have left in a folder
-//!     bench guide FOLDER              another, of what our calls take of the guide's processor
 //!
 //! TOLERANCES are six squared ones, with commas between. With words, only cases that have one of them in
 //! their name are taken.
 
 mod callgrind;
 mod cases;
-mod guide;
 mod lists;
 mod measure;
 mod ours;
@@ -31,7 +29,6 @@ fn main() {
         }),
         ["count", six, ref words @ ..] => each_part(six, words, |_, job| measure::counted(job)),
         ["table", folder] => print!("{}", table::both_sides(&results::read(folder.as_ref()))),
-        ["guide", folder] => print!("{}", table::for_the_guide(&results::read(folder.as_ref()))),
         _ => panic!("usage: see bench/run"),
     }
 }

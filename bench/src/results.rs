@@ -22,36 +22,18 @@ pub struct Part {
     pub counts: Option<Counts>,
 }
 
-/// What a part works out: distances to a segment, roots, roots of ours that are worked out and not known at
-/// once as that of 0 is, and float operations of each kind.
+/// What a part works out: distances to a segment, and roots.
 pub struct Counts {
     pub distances: u64,
     pub roots: u64,
-    pub long_roots: u64,
-    pub operations: [u64; 5],
 }
-
-/// Adds, multiplies, divides, compares and conversions, by the names that the instructions have on aarch64 and
-/// on x86-64.
-const OPERATIONS: [&[&str]; 5] = [
-    &["fadd", "fsub", "addsd", "subsd"],
-    &["fmul", "mulsd"],
-    &["fdiv", "divsd"],
-    &["fcmp", "ucomisd", "comisd"],
-    &["scvtf", "cvtsi2sd"],
-];
 
 impl Counts {
     fn of(runs: &Runs, code: &Code) -> Counts {
         let is_distance = |name: &str| name.ends_with("::get_sq_seg_dist");
         let is_root =
             |name: &str| ["sqrt::root::sqrt", "std::f64::<impl f64>::sqrt"].contains(&name);
-        Counts {
-            distances: runs.calls(code, is_distance),
-            roots: runs.calls(code, is_root),
-            long_roots: runs.calls(code, |name| name == "sqrt::root::rounded_root"),
-            operations: OPERATIONS.map(|names| runs.of_names(code, names)),
-        }
+        Counts { distances: runs.calls(code, is_distance), roots: runs.calls(code, is_root) }
     }
 }
 

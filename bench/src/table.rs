@@ -1,6 +1,5 @@
-//! The tables, in Markdown.
+//! The table, in Markdown.
 
-use crate::guide::{estimate, REDRAW_SECONDS};
 use crate::results::{Measured, Part};
 
 /// Both sides beside each other.
@@ -41,27 +40,6 @@ fn both_sides_of(case: &Measured) -> Vec<String> {
         our_stack,
         rust_stack,
     ]
-}
-
-/// What our calls take of the guide's processor.
-pub fn for_the_guide(cases: &[Measured]) -> String {
-    let head = "call | list | points | distances | roots | adds | multiplies | divides | compares | conversions \
-                | other instructions | ms | of a redraw";
-    table(head, cases.iter().filter_map(for_the_guide_of))
-}
-
-fn for_the_guide_of(case: &Measured) -> Option<Vec<String>> {
-    let counts = case.ours.counts.as_ref()?;
-    let (others, seconds) = estimate(&case.ours)?;
-    let mut cells = vec![case.call.clone(), case.list.clone()];
-    cells.extend([case.points, counts.distances, counts.roots].map(grouped));
-    cells.extend(counts.operations.map(grouped));
-    cells.push(grouped(others));
-    let [least, most] = seconds.map(|seconds| decimal(seconds * 1e3));
-    cells.push(format!("{least} to {most}"));
-    let [least, most] = seconds.map(|seconds| decimal(seconds / REDRAW_SECONDS * 100.0));
-    cells.push(format!("{least} to {most} %"));
-    Some(cells)
 }
 
 /// A table with a head of words and rows of cells: names, and from the third column on numbers.
