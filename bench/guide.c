@@ -513,8 +513,8 @@ static void frame_answer(const list *of) {
 }
 
 // ---- The table: what a row is for, its call and its list, what is made ready and what is called, and the count that
-// was answered when it was first measured. That is no test of the answer (bench/run holds these calls to the Rust's); it
-// keeps a refusal, or another list, from being measured in its place.
+// was answered when it was first measured. That is no test of the answer (bench/run holds these calls to the Rust's):
+// it keeps a refusal, or another list, from being measured in its place.
 
 typedef struct {
     const char *table, *call;

@@ -71,13 +71,14 @@
 // STACK
 //
 // Bytes are those of the x86-64 code at -O3: all frames along the deepest path with their return addresses, without
-// what memset takes (tools/stack prints them). docs/COST.md has what each call was seen to take of a Cortex-M.
+// what memset takes (tools/stack prints them). Those of a Cortex-M, which are more, with libgcc's routines and memset,
+// stand in docs/COST.md.
 //
 // Douglas-Peucker and the numbers call themselves, by levels: a list whose every split takes one point off goes as deep
 // as it is long, a shore far less. NOTHING STOPS A LIST THAT GOES DEEPER THAN THE STACK HOLDS: the call then writes
-// past the end of the stack. A level takes 144 bytes on x86-64 and on a Cortex-M4, 160 on a Cortex-M0+. The guide, with
-// 114 KiB for its stack, can have the numbers of every list of 808 points (727 on a Cortex-M0+); of what goes deeper it
-// makes a fault (guide/README.md).
+// past the end of the stack. A level takes 144 bytes on x86-64 and at most so on a Cortex-M4, 168 on a Cortex-M0+. The
+// guide, with 114 KiB for its stack, can have the numbers of every list of 808 points (727 on a Cortex-M0+); of what
+// goes deeper it makes a fault (guide/README.md).
 #ifndef SANDLINE_H
 #define SANDLINE_H
 
