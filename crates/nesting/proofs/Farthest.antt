@@ -9,14 +9,11 @@ use native.Mathlib.Omega.{arith}
 use lib.IntN.{ℤ}
 use lib.Ieee.{Float, lt}
 use Rattle.laws.proofs.Order.{AtLeastZero, at-least-zero, lt-irreflexive, lt-asymmetric, lt-transitive, ge-transitive, le-lt-transitive}
-use Rattle.point.specs.Points.{pointAt}
 use Rattle.split.specs.declared.farthest.Far.{Far}
 use Rattle.split.specs.Farthest.{distanceIn, farther, farthest}
-use Rattle.split.proofs.Distances.{Small, distance-nonneg, distance-fits}
 use Rattle.split.proofs.Folds.{far, Over, over-first, over-rest, by-test, farther-any}
-use Rattle.split.specs.inside.Spans.{Distance}
-use Rattle.split.specs.Tree.{spanTree}
-use Rattle.split.proofs.Trees.{Each, by-spans, middle, reach, split-inside}
+use Rattle.split.proofs.Small.{SmallSpan, at-least, span-distance}
+use Rattle.split.proofs.Trees.{middle, reach}
 
 -- ---- the fold `farther`
 
@@ -124,27 +121,6 @@ module _ (d : ℕ → Float) where
       go (inl e) u = subst (λ (j : ℕ). lt (d j) (farther d n (suc k) (far k (d k)) .distance) ≡ true) e (at-first (omega arith) (farther-rises n (suc k) (far k (d k)) o q))
       go (inr g) u = farther-earliest n (suc k) (far k (d k)) o q (omega arith) i g u
 
--- the points of a span are those of an i32, ends too
-pub record SmallSpan (points : List ℤ) (first last : ℕ) : Type 0 where
-  pub small : (k : ℕ) → first ≤ k → k ≤ last → Small (pointAt points k)
-
-pub at-least : {x : Float} → Distance x → AtLeastZero x
-at-least p = at-least-zero (p .nonneg)
-
--- ---- the distances of a span
-
-module _ (points : List ℤ) where
-  pub span-part : {f l : ℕ} (f′ l′ : ℕ) → SmallSpan points f l → f ≤ f′ → l′ ≤ l → SmallSpan points f′ l′
-  span-part f′ l′ s p q = record { small = λ k a b. s .small k (omega arith) (omega arith) }
-
-  pub span-distance : {f l : ℕ} → SmallSpan points f l → (k : ℕ) → f ≤ k → k ≤ l → Distance (distanceIn points f l k)
-  span-distance {f} {l} s k p q = record {
-    nonneg =
-        distance-nonneg (pointAt points k) (pointAt points f) (pointAt points l)
-        (s .small k p q) (s .small f (le-refl f) (omega arith)) (s .small l (omega arith) (le-refl l));
-    fitting = distance-fits (pointAt points k) (pointAt points f) (pointAt points l);
-  }
-
 -- ---- where a span is split
 
 module _ (points : List ℤ) (f l : ℕ) (inside : suc f < l) where
@@ -157,13 +133,6 @@ module _ (points : List ℤ) (f l : ℕ) (inside : suc f < l) where
   module _ (s : SmallSpan points f l) where
     pub inner : Over AtLeastZero d (suc n) (suc f)
     inner i p q = at-least (span-distance points s i (omega arith) (omega arith))
-
-    -- at a distance
-    pub split-distance : Distance (reach points f l)
-    unfolding farthest
-    split-distance =
-        farther-any d Distance n (suc (suc f)) (far (suc f) (d (suc f)))
-        (λ i p q. span-distance points s i (omega arith) (omega arith)) (span-distance points s (suc f) (omega arith) (omega arith))
 
     -- than which none inside is greater
     pub split-greatest : (k : ℕ) → f < k → k < l → lt (reach points f l) (d k) ≡ false
@@ -186,14 +155,3 @@ module _ (points : List ℤ) (f l : ℕ) (inside : suc f < l) where
     pub split-earliest : (k : ℕ) → f < k → k < middle points f l → lt (d k) (reach points f l) ≡ true
     unfolding farthest
     split-earliest k p = farther-earliest-from d n (suc f) inner k p
-
-pub span-distances : (points : List ℤ) (f l : ℕ) → SmallSpan points f l → Each Distance (spanTree points f l)
-unfolding Each
-span-distances points =
-    by-spans points (λ f l t. SmallSpan points f l → Each Distance t) (λ f l h s. tt)
-    (λ f l o below above p q s.
-    let i = split-inside points f l o in (
-      split-distance points f l o s,
-      p (span-part points f (middle points f l) s (omega arith) (omega arith)),
-      q (span-part points (middle points f l) l s (omega arith) (omega arith)),
-    ))

@@ -18,7 +18,8 @@ use Rattle.split.specs.Tree.{Tree, leaf, node, spanTree, size, cut}
 use Rattle.split.proofs.Cuts.{length-cut, cut-kept, cut-dropped}
 use Rattle.nesting.proofs.Tolerances.{within-goes-down}
 use Rattle.split.proofs.Trees.{middle, reach, split-inside, by-spans}
-use Rattle.nesting.proofs.Farthest.{SmallSpan, at-least, span-part, span-distance, split-distance, split-greatest}
+use Rattle.split.proofs.Small.{SmallSpan, at-least, span-part, span-distance, split-distance}
+use Rattle.nesting.proofs.Farthest.{split-greatest}
 
 -- in a list of marks that starts at the position f: two kept ones around k, with none between them, near whose segment k lies
 pub record Between (points : List ℤ) (t : Float) (f : ℕ) (marks : List ℕ) (k : ℕ) : Type 0 where

@@ -28,7 +28,8 @@ use Rattle.split.proofs.Distances.{Small, distance-below, distance-nonneg}
 use Rattle.split.proofs.Framed.{framed-many, framed-one}
 use Rattle.nesting.proofs.Tolerances.{lower-keeps}
 use Rattle.split.proofs.Trees.{Each, each-map, split-inside}
-use Rattle.nesting.proofs.Farthest.{SmallSpan, at-least, split-greatest, split-earliest, span-distances}
+use Rattle.split.proofs.Small.{SmallSpan, at-least, span-distances}
+use Rattle.nesting.proofs.Farthest.{split-greatest, split-earliest}
 use Rattle.split.proofs.Claims.{a-mark-for-each-point, a-number-for-each-point}
 use Rattle.reduce.specs.DouglasPeucker.{douglasPeuckerOf}
 use Rattle.reduce.specs.Kept.{shortFor}

@@ -10,3 +10,13 @@ pub mod Framed
 pub mod Stores
 pub mod Spans
 pub mod Buffers
+pub mod Apart
+pub mod Parts
+pub mod Room
+pub mod Visited
+pub mod Walk
+pub mod Turns
+pub mod Pieces
+pub mod Fitting
+pub mod Small
+pub mod Shallow

@@ -64,11 +64,11 @@ module _ (points : List ℤ) (t : Float) (first last : ℕ) where
 -- ---- the numbers
 
 -- a square that equals 0.0 is it, as no square is -0; and the least of it and a number is it
-zero-distance : Distance zero64
+pub zero-distance : Distance zero64
 unfolding ofBits fits
 zero-distance = record { nonneg = record { plus = refl }; fitting = tt }
 
-below-zero : (x : Float) → NonNeg x → lt x zero64 ≡ false
+pub below-zero : (x : Float) → NonNeg x → lt x zero64 ≡ false
 unfolding ofBits
 below-zero x p = lt-is (at-least-zero p) (at-least-zero (zero-distance .nonneg)) ∙ le-ltb (upper x * 1) (0 * lower x) (omega arith)
 

@@ -46,7 +46,7 @@ fn mark_span(points: &[i32], first: usize, last: usize, tolerance: f64, marks: &
 }
 
 // Puts the mark 0 at the positions from `from` on and before `to`.
-fn clear(from: usize, to: usize, marks: &mut [u8])
+pub(crate) fn clear(from: usize, to: usize, marks: &mut [u8])
     requires { ⌜ (from ≤ to) × (to ≤ length (now marks)) ⌝ }
     ensures { λ _. ⌜ now (marks .exit) ≡ sets (now (marks .entry)) from (replicate (to - from) 0) ⌝ }
 {

@@ -54,7 +54,7 @@ fn number_span(points: &[i32], first: usize, last: usize, around: f64, out: &mut
 }
 
 // The lesser of two, the first of equals.
-fn least(a: f64, b: f64) -> f64
+pub(crate) fn least(a: f64, b: f64) -> f64
     ensures { λ r. ⌜ r ≡ least a b ⌝ }
 {
     if b < a {
@@ -64,7 +64,7 @@ fn least(a: f64, b: f64) -> f64
 }
 
 // Puts the number 0 at the positions from `from` on and before `to`.
-fn fill(from: usize, to: usize, out: &mut [f64])
+pub(crate) fn fill(from: usize, to: usize, out: &mut [f64])
     requires { ⌜ (from ≤ to) × (to ≤ length (now out)) ⌝ }
     ensures { λ _. ⌜ now (out .exit) ≡ sets (now (out .entry)) from (replicate (to - from) zero64) ⌝ }
 {
