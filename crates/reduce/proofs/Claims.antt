@@ -27,18 +27,27 @@ use Rattle.point.proofs.Claims.{refusal-changes-nothing}
 use Rattle.point.proofs.Flat.{length-points, count-flat}
 use Rattle.point.proofs.Room.{places-enough, places-shorter}
 use Rattle.split.specs.Tree.{marksOf, numbersOf}
-use Rattle.reduce.specs.DouglasPeucker.{douglasPeuckerRefusal, keptAndMarked, douglasPeuckerOf}
+use Rattle.reduce.specs.Answers.{countedNumber, countedCount, distancesOf, answerOf}
+use Rattle.reduce.specs.DouglasPeucker.{douglasPeuckerRefusal, keptAndMarked, douglasPeuckerOf, countedDouglasPeuckerOf}
 use Rattle.reduce.specs.Kept.{kept, shortFor}
-use Rattle.reduce.specs.Numbers.{numbersRefusal, numberedOf}
+use Rattle.reduce.specs.Numbers.{numbersRefusal, numberedOf, countedNumberedOf}
 use Rattle.reduce.specs.Radial.{radial, radialRefusal, radialOf}
 use Rattle.reduce.specs.Reduce.{reduceRefusal, reduction, reduceOf}
 use Rattle.reduce.specs.Zoom.{marksBy, zoomRefusal, zoomOf}
+use Rattle.reduce.specs.declared.Counted.{Counted}
 use Rattle.reduce.proofs.Reduction.{inWhole, many-points, answers-whole, answers-narrowed, out-room}
 use Rattle.point.proofs.Verdicts.{passes}
 use Rattle.reduce.proofs.Room.{counts, places, marks-fit}
+use Rattle.reduce.proofs.Uncounted.{uncounted, douglas-peucker-uncounted, numbers-uncounted}
+use Rattle.reduce.proofs.Counted.answer.Reads.{Post as Counted-answer}
+use Rattle.reduce.proofs.Counted.count.Reads.{Post as Counted-count}
+use Rattle.reduce.proofs.Counted.distances.Reads.{Post as Counted-distances}
+use Rattle.reduce.proofs.Counted.number.Reads.{Post as Counted-number}
 use Rattle.reduce.proofs.both_passes.reduce.Reads.{Post as Reduce}
 use Rattle.reduce.proofs.douglas_peucker.simplify_douglas_peucker.Reads.{Post as Douglas-peucker}
+use Rattle.reduce.proofs.douglas_peucker.simplify_douglas_peucker_counted.Reads.{Post as Douglas-peucker-counted}
 use Rattle.reduce.proofs.numbering.numbers.Reads.{Post as Numbers}
+use Rattle.reduce.proofs.numbering.numbers_counted.Reads.{Post as Numbers-counted}
 use Rattle.reduce.proofs.radial.Far.{radial-shorter}
 use Rattle.reduce.proofs.radial.simplify_radial_dist.Reads.{Post as Radial}
 use Rattle.reduce.proofs.zooming.zoom.Reads.{Post as Zoom}
@@ -70,6 +79,36 @@ pub zoom-determined : Determined (List ℤ × List Float × Float × List ℤ) P
     (λ _ a. (now (a .0), now (a .1 .0), a .1 .1 .0, now (a .1 .1 .1 .0)))
     (λ _ r s. record { answer = r; out = now (s .1 .1 .1 .0) })
 zoom-determined = same (λ x. zoomOf (x .0) (x .1) (x .2) (x .3)) (λ _ a r s p. p)
+
+pub douglas-peucker-counted-determined : Determined (List ℤ × Float × List ℤ × List ℕ) (Outcome Counted (List ℤ × List ℕ)) Douglas-peucker-counted
+    (λ _ a. (now (a .0), a .1 .0, now (a .1 .1 .0), now (a .1 .1 .1 .0)))
+    (λ _ r s. record { answer = r; out = (now (s .1 .1 .0), now (s .1 .1 .1 .0)) })
+douglas-peucker-counted-determined = same (λ x. countedDouglasPeuckerOf (x .0) (x .1) (x .2) (x .3)) (λ _ a r s p. p)
+
+pub numbers-counted-determined : Determined (List ℤ × List Float) (Outcome Counted (List Float)) Numbers-counted
+    (λ _ a. (now (a .0), now (a .1 .0)))
+    (λ _ r s. record { answer = r; out = now (s .1 .0) })
+numbers-counted-determined = same (λ x. countedNumberedOf (x .0) (x .1)) (λ _ a r s p. p)
+
+pub counted-number-determined : Determined Counted ℕ Counted-number (λ _ a. a .0) (λ _ r s. r)
+counted-number-determined = same countedNumber (λ _ a r s p. p)
+
+pub counted-count-determined : Determined Counted ℕ Counted-count (λ _ a. a .0) (λ _ r s. r)
+counted-count-determined = same countedCount (λ _ a r s p. p)
+
+pub counted-distances-determined : Determined Counted ℕ Counted-distances (λ _ a. a .0) (λ _ r s. r)
+counted-distances-determined = same distancesOf (λ _ a r s p. p)
+
+pub counted-answer-determined : Determined Counted Answer Counted-answer (λ _ a. a .0) (λ _ r s. r)
+counted-answer-determined = same answerOf (λ _ a r s p. p)
+
+-- ---- with its work counted a call answers what it answers without
+
+pub douglas-peucker-counts-beside : (list : List ℤ) (t : Float) (out : List ℤ) (marks : List ℕ) → uncounted (countedDouglasPeuckerOf list t out marks) ≡ douglasPeuckerOf list t out marks
+douglas-peucker-counts-beside = douglas-peucker-uncounted
+
+pub numbers-count-beside : (list : List ℤ) (out : List Float) → uncounted (countedNumberedOf list out) ≡ numberedOf list out
+numbers-count-beside = numbers-uncounted
 
 -- ---- a refusal changes no buffer, and what an answer counts has its place in the buffer
 

@@ -4,3 +4,4 @@ pub mod Claims
 pub mod Select
 pub mod Room
 pub mod Reduction
+pub mod Uncounted

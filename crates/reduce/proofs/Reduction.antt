@@ -42,6 +42,10 @@ module _ (list : List ℤ) (tolerance : Float) where
     unfolding reduction
     answers-narrowed e = rw (e, reduction)
 
+-- a list that is not too long has at most 4,096 points
+pub few-points : (list : List ℤ) → tooMany (length list) ≡ false → count list ≤ 4096
+few-points list e = omega (arith, ltb-false 8192 (length list) e)
+
 -- ---- where nothing is refused, the points are good and there is room
 
 module _ (list : List ℤ) (tolerance : Float) (out scratch : List ℤ) (marks : List ℕ) (passed : reduceRefusal list tolerance out scratch marks ≡ none) where
@@ -55,6 +59,9 @@ module _ (list : List ℤ) (tolerance : Float) (out scratch : List ℤ) (marks :
 
   rooms : (few-values ≡ false) × (ltb (length marks) (count list) ≡ false)
   rooms = both-false few-values (ltb (length marks) (count list)) (tests .1)
+
+  pub few : count list ≤ 4096
+  few = few-points list (passes _ (tooMany (length list)) _ passed .0)
 
   pub good-points : badPoints list ≡ false
   good-points = tests .0

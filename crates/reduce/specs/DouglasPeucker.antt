@@ -6,7 +6,7 @@ use mathlib.Core.List.{List}
 use mathlib.Core.Option.{Option, none}
 use lib.Dec.{ltb, eqb}
 use lib.IntN.{ℤ}
-use lib.Ieee.{Float}
+use lib.Ieee.{Float, lt}
 use lib.ListN.{length}
 use Rattle.laws.specs.Lists.{over}
 use Rattle.laws.specs.Outcome.{Outcome}
@@ -18,8 +18,11 @@ use Rattle.point.specs.declared.refusal.Answer.{Answer}
 use Rattle.point.specs.declared.refusal.Answer.the-variants.{Done, Refused}
 use Rattle.point.specs.declared.refusal.Refusal.{Refusal}
 use Rattle.point.specs.declared.refusal.Refusal.the-variants.{TooMany, BadPoint, TooFew, BadTolerance, NoRoom}
-use Rattle.split.specs.Tree.{marksOf}
+use Rattle.split.specs.Tree.{marksOf, tree}
+use Rattle.split.specs.Visits.{visits}
 use Rattle.reduce.specs.Kept.{kept, shortFor}
+use Rattle.reduce.specs.declared.Counted.{Counted}
+use Rattle.reduce.specs.declared.Counted.the-variants as Counted
 
 -- "The lowest that applies is given"; Douglas-Peucker needs "n mark bytes"
 abbrev pub douglasPeuckerRefusal : List ℤ → Float → List ℤ → List ℕ → Option Refusal
@@ -41,3 +44,13 @@ unfoldable pub douglasPeuckerOf : List ℤ → Float → List ℤ → List ℕ �
 unfolding outcome kept marksOf flat points over
 douglasPeuckerOf list tolerance out marks =
     outcome Refused (douglasPeuckerRefusal list tolerance out marks) (out, marks) (keptAndMarked list tolerance out marks)
+
+-- "Report how many distances were computed": document 02, 8/13
+unfoldable pub countedDouglasPeuckerOf : List ℤ → Float → List ℤ → List ℕ → Outcome Counted (List ℤ × List ℕ)
+unfolding outcome kept marksOf flat points over visits tree
+countedDouglasPeuckerOf list tolerance out marks =
+    outcome Counted.Refused (douglasPeuckerRefusal list tolerance out marks) (out, marks)
+    (record {
+      answer = Counted.Done (length (kept (marksOf tolerance list) (points list))) (visits (lt tolerance) (tree list));
+      out = keptAndMarked list tolerance out marks .out;
+    })

@@ -8,11 +8,12 @@ use Rattle.point.specs.Limits.{badList}
 use Rattle.point.specs.declared.refusal.Answer.the-variants.{Done, Refused}
 use Rattle.point.specs.declared.refusal.Refusal.the-variants.{NoRoom, BadPoint, TooFew, BadTolerance}
 use Rattle.split.specs.Distance.{sqSegDist}
-use Rattle.reduce.specs.DouglasPeucker.{douglasPeuckerOf}
-use Rattle.reduce.specs.Numbers.{numberedOf}
+use Rattle.reduce.specs.DouglasPeucker.{douglasPeuckerOf, countedDouglasPeuckerOf}
+use Rattle.reduce.specs.Numbers.{numberedOf, countedNumberedOf}
 use Rattle.reduce.specs.Radial.{sqDist, radialOf}
 use Rattle.reduce.specs.Reduce.{reduceOf}
 use Rattle.reduce.specs.Zoom.{zoomOf}
+use Rattle.reduce.specs.declared.Counted.the-variants as Counted
 
 -- P10, by the numbers of P9: at 16 the ends only, at 15 all
 zoomed-at-16 : zoomOf (pos 0 ∷ pos 0 ∷ pos 8 ∷ pos 2 ∷ pos 0 ∷ pos 4 ∷ pos 8 ∷ pos 0 ∷ []) (inf false ∷ ofInt binary64 (pos 16) ∷ ofInt binary64 (pos 16) ∷ inf false ∷ [])
@@ -103,3 +104,21 @@ one-reduced : reduceOf (pos 7 ∷ pos 8 ∷ []) (ofInt binary64 (pos 3)) (pos 9 
     ≡ record { answer = Done 1; out = (pos 7 ∷ pos 8 ∷ pos 9 ∷ pos 9 ∷ [], pos 6 ∷ pos 6 ∷ [], 5 ∷ []) }
 unfolding reduceOf badList ofInt le
 one-reduced = refl
+
+-- P9 and P10 with their work: two points inside, and one of them again in a part; at 16 the list is not split
+counted-at-15 : countedDouglasPeuckerOf (pos 0 ∷ pos 0 ∷ pos 8 ∷ pos 2 ∷ pos 0 ∷ pos 4 ∷ pos 8 ∷ pos 0 ∷ []) (ofInt binary64 (pos 15))
+    (pos 9 ∷ pos 9 ∷ pos 9 ∷ pos 9 ∷ pos 9 ∷ pos 9 ∷ pos 9 ∷ pos 9 ∷ []) (5 ∷ 5 ∷ 5 ∷ 5 ∷ [])
+    ≡ record { answer = Counted.Done 4 3; out = (pos 0 ∷ pos 0 ∷ pos 8 ∷ pos 2 ∷ pos 0 ∷ pos 4 ∷ pos 8 ∷ pos 0 ∷ [], 1 ∷ 1 ∷ 1 ∷ 1 ∷ []) }
+unfolding countedDouglasPeuckerOf badList sqSegDist ofInt ofBits add sub mul div lt ne le
+counted-at-15 = refl
+
+counted-at-16 : countedDouglasPeuckerOf (pos 0 ∷ pos 0 ∷ pos 8 ∷ pos 2 ∷ pos 0 ∷ pos 4 ∷ pos 8 ∷ pos 0 ∷ []) (ofInt binary64 (pos 16))
+    (pos 9 ∷ pos 9 ∷ pos 9 ∷ pos 9 ∷ pos 9 ∷ pos 9 ∷ pos 9 ∷ pos 9 ∷ []) (5 ∷ 5 ∷ 5 ∷ 5 ∷ [])
+    ≡ record { answer = Counted.Done 2 2; out = (pos 0 ∷ pos 0 ∷ pos 8 ∷ pos 0 ∷ pos 9 ∷ pos 9 ∷ pos 9 ∷ pos 9 ∷ [], 1 ∷ 0 ∷ 0 ∷ 1 ∷ []) }
+unfolding countedDouglasPeuckerOf badList sqSegDist ofInt ofBits add sub mul div lt ne le
+counted-at-16 = refl
+
+numbers-with-their-work : countedNumberedOf (pos 0 ∷ pos 0 ∷ pos 8 ∷ pos 2 ∷ pos 0 ∷ pos 4 ∷ pos 8 ∷ pos 0 ∷ []) (nan ∷ nan ∷ nan ∷ nan ∷ [])
+    ≡ record { answer = Counted.Done 4 3; out = inf false ∷ ofInt binary64 (pos 16) ∷ ofInt binary64 (pos 16) ∷ inf false ∷ [] }
+unfolding countedNumberedOf badList sqSegDist ofInt ofBits add sub mul div lt ne
+numbers-with-their-work = refl

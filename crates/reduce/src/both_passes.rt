@@ -81,7 +81,7 @@ fn narrow(
         keep_all(list, out);
         return Answer::Done(list.len() / 2);
     }
-    split::mark(list, sq_tolerance, marks);
+    split::mark_waiting(list, sq_tolerance, marks);
     Answer::Done(keep_marked(list, marks, out))
 }
 

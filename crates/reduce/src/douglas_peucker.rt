@@ -1,6 +1,7 @@
 // Douglas-Peucker, over the splits of the crate `split`.
 ghost use mathlib.Core.Path.{_≡_};
-ghost use Rattle.reduce.specs.DouglasPeucker.{douglasPeuckerOf};
+ghost use Rattle.reduce.specs.DouglasPeucker.{douglasPeuckerOf, countedDouglasPeuckerOf};
+use crate::Counted;
 use crate::keep::keep_marked;
 use point::Answer;
 use point::Refusal;
@@ -16,25 +17,41 @@ pub fn simplify_douglas_peucker(
     ensures { λ r. ⌜ record { answer = r; out = (now (out .exit), now (marks .exit)) }
         ≡ douglasPeuckerOf (now (points .entry)) tolerance (now (out .entry)) (now (marks .entry)) ⌝ }
 {
+    simplify_douglas_peucker_counted(points, tolerance, out, marks).answer()
+}
+
+// The same, and answers how many distances were computed too.
+pub fn simplify_douglas_peucker_counted(
+    points: &[i32],
+    tolerance: f64,
+    out: &mut [i32],
+    marks: &mut [u8],
+) -> Counted
+    ensures { λ r. ⌜ record { answer = r; out = (now (out .exit), now (marks .exit)) }
+        ≡ countedDouglasPeuckerOf (now (points .entry)) tolerance (now (out .entry)) (now (marks .entry)) ⌝ }
+{
     let n = points.len() / 2;
     if point::too_many(points.len()) {
-        return Answer::Refused(Refusal::TooMany);
+        return Counted::Refused(Refusal::TooMany);
     }
     if point::bad_points(points) {
-        return Answer::Refused(Refusal::BadPoint);
+        return Counted::Refused(Refusal::BadPoint);
     }
     if n == 0 {
-        return Answer::Refused(Refusal::TooFew);
+        return Counted::Refused(Refusal::TooFew);
     }
     if point::bad_sq_tolerance(tolerance) {
-        return Answer::Refused(Refusal::BadTolerance);
+        return Counted::Refused(Refusal::BadTolerance);
     }
     if out.len() / 2 < point::places_for(n) {
-        return Answer::Refused(Refusal::NoRoom);
+        return Counted::Refused(Refusal::NoRoom);
     }
     if marks.len() < n {
-        return Answer::Refused(Refusal::NoRoom);
+        return Counted::Refused(Refusal::NoRoom);
     }
-    split::mark(points, tolerance, marks);
-    Answer::Done(keep_marked(points, marks, out))
+    let distances = split::mark_waiting(points, tolerance, marks);
+    Counted::Done {
+        points: keep_marked(points, marks, out),
+        distances,
+    }
 }

@@ -1,6 +1,7 @@
 // The numbers of a list, over the splits of the crate `split`.
 ghost use mathlib.Core.Path.{_≡_};
-ghost use Rattle.reduce.specs.Numbers.{numberedOf};
+ghost use Rattle.reduce.specs.Numbers.{numberedOf, countedNumberedOf};
+use crate::Counted;
 use point::Answer;
 use point::Refusal;
 
@@ -9,19 +10,29 @@ use point::Refusal;
 pub fn numbers(points: &[i32], out: &mut [f64]) -> Answer
     ensures { λ r. ⌜ record { answer = r; out = now (out .exit) } ≡ numberedOf (now (points .entry)) (now (out .entry)) ⌝ }
 {
+    numbers_counted(points, out).answer()
+}
+
+// The same, and answers how many distances were computed too.
+pub fn numbers_counted(points: &[i32], out: &mut [f64]) -> Counted
+    ensures { λ r. ⌜ record { answer = r; out = now (out .exit) } ≡ countedNumberedOf (now (points .entry)) (now (out .entry)) ⌝ }
+{
     let n = points.len() / 2;
     if point::too_many(points.len()) {
-        return Answer::Refused(Refusal::TooMany);
+        return Counted::Refused(Refusal::TooMany);
     }
     if point::bad_points(points) {
-        return Answer::Refused(Refusal::BadPoint);
+        return Counted::Refused(Refusal::BadPoint);
     }
     if n == 0 {
-        return Answer::Refused(Refusal::TooFew);
+        return Counted::Refused(Refusal::TooFew);
     }
     if out.len() < point::places_for(n) {
-        return Answer::Refused(Refusal::NoRoom);
+        return Counted::Refused(Refusal::NoRoom);
     }
-    split::number(points, out);
-    Answer::Done(n)
+    let distances = split::number_waiting(points, out);
+    Counted::Done {
+        points: n,
+        distances,
+    }
 }

@@ -13,6 +13,7 @@ use lib.ListN.{length, take}
 use borrow.Author.Needs.{needs}
 use Rattle.laws.specs.If.{if_then_else_}
 use Rattle.laws.specs.Lists.{over}
+use Rattle.laws.specs.Outcome.{Outcome}
 use Rattle.laws.proofs.Lists.{take-over-all}
 use Rattle.point.specs.Limits.{placesFor}
 use Rattle.point.specs.Points.{flat, points, count}
@@ -21,13 +22,15 @@ use Rattle.point.specs.declared.refusal.Answer.the-variants.{Done}
 use Rattle.point.specs.inside.Written.{Handed}
 use Rattle.point.proofs.Flat.{length-flat, length-points, count-flat}
 use Rattle.point.proofs.Room.{places-shorter}
-use Rattle.split.specs.Buffers.{laidMarks}
 use Rattle.split.specs.Tree.{marksOf}
+use Rattle.split.specs.Visits.{countedMarks}
 use Rattle.split.proofs.Claims.{a-mark-for-each-point, marks-over}
+use Rattle.split.proofs.Fitting.{counted}
+use Rattle.split.proofs.Shallow.{marks-stay}
 use Rattle.reduce.specs.Kept.{kept}
 use Rattle.reduce.specs.Radial.{radial}
 use Rattle.reduce.specs.Reduce.{reduceRefusal, reduction}
-use Rattle.reduce.proofs.Reduction.{test-is, many-points, answers-whole, answers-narrowed, good-points, out-room, scratch-room, marks-room, scratch-fits, out-fits}
+use Rattle.reduce.proofs.Reduction.{test-is, many-points, answers-whole, answers-narrowed, few, good-points, out-room, scratch-room, marks-room, scratch-fits, out-fits}
 use Rattle.reduce.proofs.Select.{kept-over}
 use Rattle.reduce.proofs.radial.Far.{radial-shorter, radial-some}
 use Rattle.reduce.proofs.both_passes.narrow.Statement.{statement}
@@ -110,9 +113,12 @@ module _ (list : List ℤ) (tolerance : Float) (out scratch : List ℤ) (marks :
         a-mark-each : length marked ≡ length marks → count picked ≤ length marked
         a-mark-each k = rw list-is (omega (arith, marks-fit))
 
-        module _ (s : marked ≡ laidMarks picked sq marks) where
+        module _ (r : ℕ) (s : counted r marked ≡ countedMarks picked sq marks) where
           marks-are : marked ≡ over ring-marks marks
-          marks-are = s ∙ ap (λ (l : List ℤ). laidMarks l sq marks) list-is ∙ marks-over (flat ring) sq marks some marks-fit
+          marks-are =
+              let short : count (flat ring) ≤ 4096 = omega (arith, fewer, few list tolerance out scratch marks passed) in
+              ap (λ (x : Outcome ℕ (List ℕ)). x .out) s ∙ ap (λ (l : List ℤ). countedMarks l sq marks .out) list-is ∙ marks-stay (flat ring) short sq marks
+              ∙ marks-over (flat ring) sq marks some marks-fit
 
           kept-are : kept marked (points picked) ≡ kept ring-marks (points (flat ring))
           kept-are =
@@ -146,7 +152,7 @@ narrow-spec =
     (λ c. search needs)  -- same-length
     (λ c. search needs)  -- same-length-2
     (λ c. search (in-whole, needs))  -- returns
-    (λ c κs. tt)  -- mark-requires
+    (λ c κs. tt)  -- mark-waiting-requires
     (λ c κs. (search a-mark-each, search places-fit))  -- keep-marked-requires
     (λ c. search needs)  -- same-length-3
     (λ c. search needs)  -- same-length-4
