@@ -13,6 +13,7 @@ mod random;
 mod reduce;
 mod simplify;
 mod smooth;
+mod split;
 mod sqrt;
 mod survey;
 mod text;
@@ -60,12 +61,16 @@ macro_rules! subject {
     };
 }
 
-const SUBJECTS: [Subject; 10] = [
+const SUBJECTS: [Subject; 11] = [
     subject!(sqrt, [sqrt_bits, sqrt]),
     subject!(point, [points, points_f64, tolerance, sq_tolerance]),
     subject!(chart, [pixel, area, first_start]),
     subject!(walker, [walk, spiral, spiral_step]),
-    subject!(reduce, [radial, douglas_peucker, reduce, numbers, zoom]),
+    subject!(split, [mark, number, mark_waiting, number_waiting]),
+    subject!(
+        reduce,
+        [radial, douglas_peucker, reduce, numbers, zoom, douglas_peucker_counted, numbers_counted]
+    ),
     subject!(simplify, [remove_staircase, limit_penalties, simplify]),
     subject!(frames, []),
     subject!(util, [signed_area, norm, norm_i32, mid_point, intersection, ratios]),

@@ -105,6 +105,43 @@ fn p11_reduce() {
 }
 
 #[test]
+fn distances_are_counted() {
+    let infinity = "7ff0000000000000";
+    let zero = "0000000000000000";
+    // (3,0) is split off, and the two points before it lie on their span: 3 distances and 2, not 3, 2 and 1.
+    let line = "0,0,1,0,2,0,3,0,3,3";
+    let numbers = [infinity, zero, zero, "4012000000000000", infinity].join(",");
+    says("reduce", &format!("numbers_counted {line} 5"), &format!("0 5 5 {numbers}"));
+    says("split", &format!("number_waiting {line} 5"), &format!("5 {numbers}"));
+    says("split", &format!("number {line} 5"), &numbers);
+    let kept = format!("0 3 5 0,0,3,0,3,3{} 0100000101", OLD.repeat(4));
+    says("reduce", &format!("douglas_peucker_counted {zero} {line} 10 5"), &kept);
+    // At 4.5 the whole is not split, and below 0 every span is.
+    says("split", &format!("mark_waiting 4012000000000000 {line} 5"), "3 0100000001");
+    says("split", &format!("mark_waiting bff0000000000000 {line} 6"), "6 0101010101ee");
+    says("split", &format!("mark bff0000000000000 {line} 4"), "eeeeeeee");
+    says("reduce", "numbers_counted - 0", "4 0 0 -");
+    says(
+        "reduce",
+        &format!("douglas_peucker_counted {zero} 7,7 3 1"),
+        "10 0 0 -99999,-99999,-99999 ee",
+    );
+}
+
+/// "For n points it is at most (n-2)(n-1)/2, or 0 below two."
+#[test]
+fn distances_reach_their_bound() {
+    for n in 0..40 {
+        let rising: Vec<String> = (0..n).map(|i| format!("{i},{}", i % 2 * i)).collect();
+        let list = if n == 0 { "-".to_string() } else { rising.join(",") };
+        let bound = if n < 2 { 0 } else { (n - 2) * (n - 1) / 2 };
+        let marks = if n == 0 { "-".to_string() } else { "01".repeat(n) };
+        let case = format!("mark_waiting 0000000000000000 {list} {n}");
+        says("split", &case, &format!("{bound} {marks}"));
+    }
+}
+
+#[test]
 fn p12_spiral() {
     says("walker", "spiral 2", "0 0 0 0 1 0 1 0 4 0");
     says("walker", "spiral_step 0 0 0 1 0 1 0 4 0", "0 0 0 1 0 1 0 1 1 0 4 1");

@@ -14,6 +14,7 @@ mod reduce_cases;
 mod simplify_cases;
 mod smooth_cases;
 mod spiral_cases;
+mod split_cases;
 mod sqrt_cases;
 mod util_cases;
 mod walker_cases;
@@ -97,7 +98,8 @@ fn of_charts(line: &[u8], out: &mut [u8], at: usize) -> usize {
 }
 
 fn of_outlines(line: &[u8], out: &mut [u8], at: usize) -> usize {
-    let mut end = reduce_cases::answer(line, out, at);
+    let mut end = split_cases::answer(line, out, at);
+    end = reduce_cases::answer(line, out, end);
     end = simplify_cases::answer(line, out, end);
     smooth_cases::answer(line, out, end)
 }

@@ -1,6 +1,7 @@
 //! The fixed list of the crate `reduce`.
 
-use super::make::{make, numbers_of, Call, CALLS, EDGES, SQ_TOLERANCE, TOLERANCE};
+use super::make::{make_counted, make_plain, numbers_of, Call};
+use super::make::{CALLS, EDGES, SQ_TOLERANCE, TOLERANCE};
 use super::{points_of, shapes};
 use crate::random::Random;
 use crate::text::{Cases, Line};
@@ -17,8 +18,9 @@ pub fn fixed(cases: &mut Cases) {
     fixed_rooms(cases);
     fixed_refusals(cases);
     fixed_zooms(cases);
-    fixed_random(cases, make, 9, 500);
+    fixed_random(cases, make_plain, 9, 500);
     fixed_long(cases);
+    fixed_counted(cases);
     for line in BAD_LINES {
         cases.line(line);
     }
@@ -26,7 +28,7 @@ pub fn fixed(cases: &mut Cases) {
 
 /// Document 01's lists and the like: no point, one, two, three; repeated points, points on a line,
 /// closed outlines, equal distances, the limits.
-fn base_lists() -> Vec<Vec<i32>> {
+pub(crate) fn base_lists() -> Vec<Vec<i32>> {
     vec![
         vec![],
         vec![7, 7],
@@ -59,7 +61,7 @@ fn base_lists() -> Vec<Vec<i32>> {
 fn base_tolerances(name: &str, values: &[i32]) -> Vec<f64> {
     let limit = if name == "reduce" { TOLERANCE } else { SQ_TOLERANCE };
     let mut occurring = match name {
-        "numbers" => return vec![0.0],
+        "numbers" | "numbers_counted" => return vec![0.0],
         "radial" => squares_between(values),
         "reduce" => {
             let radial = squares_between(values).into_iter().map(|d| (2.0 * d).sqrt());
@@ -108,7 +110,7 @@ fn fixed_rooms(cases: &mut Cases) {
                     [|call| &mut call.room, |call| &mut call.scratch, |call| &mut call.marks];
                 let rooms = match name {
                     "reduce" => &rooms[..],
-                    "douglas_peucker" => &[rooms[0], rooms[2]],
+                    "douglas_peucker" | "douglas_peucker_counted" => &[rooms[0], rooms[2]],
                     _ => &rooms[..1],
                 };
                 for of in rooms {
@@ -139,7 +141,7 @@ fn fixed_refusals(cases: &mut Cases) {
             cases.case(|case| call.write(case));
         }
     }
-    for name in ["radial", "douglas_peucker", "reduce", "zoom"] {
+    for name in ["radial", "douglas_peucker", "reduce", "zoom", "douglas_peucker_counted"] {
         let limit = if name == "reduce" { TOLERANCE } else { SQ_TOLERANCE };
         for values in [vec![], vec![0, 0, 8, 2, 0, 4, 8, 0]] {
             for tolerance in EDGES.into_iter().chain([limit, limit.next_up(), limit * 2.0]) {
@@ -221,8 +223,45 @@ fn fixed_long(cases: &mut Cases) {
     }
 }
 
+/// Lists whose count of distances tells one rule from another: distances of 0 in a part, before the split, behind it
+/// and on both sides of it, and in a part of a part; two parts of the same size, and one of them split further; every
+/// split at an end of its span, as many distances as there can be.
+pub(crate) fn counted_lists() -> Vec<Vec<i32>> {
+    let mut lists = vec![
+        vec![0, 0, 1, 0, 2, 0, 3, 0, 3, 3],
+        vec![0, 0, 0, 3, 1, 3, 2, 3, 3, 3],
+        vec![0, 0, 1, 0, 2, 0, 3, 0, 3, 1, 3, 2, 3, 3],
+        vec![0, 0, 9, 0, 9, 1, 9, 2, 9, 3, 9, 9, 0, 9, 0, 9, 0, 9],
+        vec![0, 0, 1, 1, 2, 4, 3, 1, 4, 0],
+        vec![0, 0, 1, 1, 2, 9, 3, 9, 4, 0],
+        vec![0, 0, 5, 5, 5, 5, 5, 5, 0, 0],
+    ];
+    for n in 3..=9 {
+        lists.push((0..n).flat_map(|i| [i, i % 2 * i]).collect());
+        lists.push((0..n).flat_map(|i| [i, i % 2 * (n - i)]).collect());
+    }
+    lists
+}
+
+/// Counts of distances: of the lists above at what occurs and right beside it, and of 4,096 points.
+fn fixed_counted(cases: &mut Cases) {
+    for values in counted_lists() {
+        for name in &CALLS[5..] {
+            for tolerance in base_tolerances(name, &values) {
+                cases.case(|case| Call::new(name, tolerance, &values).write(case));
+            }
+        }
+    }
+    fixed_random(cases, make_counted, 12, 200);
+    let mut random = Random::new(11);
+    let comb = shapes::comb(&mut random, 4096);
+    cases.case(|case| Call::new("douglas_peucker_counted", 8.0, &comb).write(case));
+    let stroll = shapes::stroll(&mut random, 4096);
+    cases.case(|case| Call::new("numbers_counted", 0.0, &stroll).write(case));
+}
+
 /// Lines that are no cases.
-const BAD_LINES: [&str; 20] = [
+const BAD_LINES: [&str; 26] = [
     "",
     "radial",
     "radial 3ff0000000000000 0,0",
@@ -243,4 +282,10 @@ const BAD_LINES: [&str; 20] = [
     "zoom 3ff0000000000000 0,0 4",
     "zoom 3ff0000000000000 0,0 1 4",
     "zooms 3ff0000000000000 0,0 3ff0000000000000 4",
+    "douglas_peucker_counted 3ff0000000000000 0,0 4",
+    "douglas_peucker_counted 3ff0000000000000 0,0 4 1 1",
+    "numbers_counted 3ff0000000000000 0,0 4",
+    "numbers_counted 0,0",
+    "numbers_counted 0,0 x",
+    "reduce_counted 3ff0000000000000 0,0 4 2 1",
 ];

@@ -6,7 +6,15 @@ use crate::document::{bad_point, too_many};
 use crate::random::Random;
 use crate::text::Line;
 
-pub const CALLS: [&str; 5] = ["radial", "douglas_peucker", "reduce", "numbers", "zoom"];
+pub const CALLS: [&str; 7] = [
+    "radial",
+    "douglas_peucker",
+    "reduce",
+    "numbers",
+    "zoom",
+    "douglas_peucker_counted",
+    "numbers_counted",
+];
 
 /// The greatest tolerance, and the greatest squared one.
 pub const TOLERANCE: f64 = 65536.0;
@@ -41,7 +49,7 @@ impl Call {
     pub fn new(name: &'static str, tolerance: f64, values: &[i32]) -> Call {
         let n = values.len() / 2;
         let room = match (name, n) {
-            ("numbers", n) => n,
+            ("numbers" | "numbers_counted", n) => n,
             (_, 1) => 4,
             (_, n) => 2 * n,
         };
@@ -51,7 +59,7 @@ impl Call {
 
     pub fn write(&self, case: &mut Line) {
         case.word(self.name);
-        if self.name != "numbers" {
+        if !matches!(self.name, "numbers" | "numbers_counted") {
             case.f64(self.tolerance);
         }
         case.i32s(&self.values);
@@ -62,7 +70,7 @@ impl Call {
         if self.name == "reduce" {
             case.number(self.scratch);
         }
-        if self.name == "reduce" || self.name == "douglas_peucker" {
+        if matches!(self.name, "reduce" | "douglas_peucker" | "douglas_peucker_counted") {
             case.number(self.marks);
         }
     }
@@ -77,12 +85,24 @@ pub fn numbers_of(values: &[i32]) -> Vec<f64> {
 }
 
 pub fn make(random: &mut Random, _: u64, case: &mut Line) {
+    make_of(&CALLS, random, case);
+}
+
+/// A case of a call that does not count its distances, and of one that does.
+pub fn make_plain(random: &mut Random, _: u64, case: &mut Line) {
+    make_of(&CALLS[..5], random, case);
+}
+pub fn make_counted(random: &mut Random, _: u64, case: &mut Line) {
+    make_of(&CALLS[5..], random, case);
+}
+
+fn make_of(calls: &[&'static str], random: &mut Random, case: &mut Line) {
     let n = length(random);
     let mut values = shapes::shape(random, n);
     if random.once_in(16) {
         damage(random, &mut values);
     }
-    let name = random.pick(&CALLS);
+    let name = random.pick(calls);
     let mut call = Call::new(name, any_tolerance(random, name, &values), &values);
     if random.once_in(4) {
         call.room = room(random, call.room);
@@ -95,7 +115,7 @@ pub fn make(random: &mut Random, _: u64, case: &mut Line) {
     call.write(case);
 }
 
-fn length(random: &mut Random) -> usize {
+pub(crate) fn length(random: &mut Random) -> usize {
     let length = match random.below(128) {
         0..=15 => random.within(0, 3),
         16..=111 => random.within(3, 18),
@@ -160,7 +180,7 @@ fn any_tolerance(random: &mut Random, name: &str, values: &[i32]) -> f64 {
 }
 
 /// The double some steps up or down.
-fn steps(number: f64, by: i64) -> f64 {
+pub(crate) fn steps(number: f64, by: i64) -> f64 {
     f64::from_bits(number.to_bits().wrapping_add_signed(by))
 }
 

@@ -1,14 +1,16 @@
 //! Answers for the crate `reduce`: radial pass, Douglas-Peucker and `reduce` by the Rust; numbers and
-//! zoom, which the Rust does not have, by document 01's text and held against the Rust.
+//! zoom, which the Rust does not have, by document 01's text and held against the Rust; counts of distances by
+//! document 02's.
 
 pub mod fixed;
 pub mod make;
 pub(crate) mod numbers;
-mod placed;
+pub(crate) mod placed;
 pub(crate) mod shapes;
 
 use crate::document::{self, bad_point, lowest, no_room, places, too_many};
 use crate::document::{BAD_POINT, BAD_TOLERANCE, NO_ROOM, TOO_FEW, TOO_MANY};
+use crate::split::visits;
 use crate::text::{Line, Words, BYTE_MARKER, F64_MARKER, I32_MARKER};
 use crate::{held, hold_eq};
 use visioncortex::reduce::{reduce, simplify_douglas_peucker, simplify_radial_dist};
@@ -21,11 +23,12 @@ pub fn answer(words: &mut Words, answer: &mut Line) -> Option<()> {
             words.end()?;
             answer_radial(sq_tolerance, &values, room, answer);
         }
-        b"douglas_peucker" => {
+        call @ (b"douglas_peucker" | b"douglas_peucker_counted") => {
             let (sq_tolerance, values) = (words.f64()?, words.i32s()?);
             let (room, mark_room) = (words.room()?, words.room()?);
             words.end()?;
-            answer_douglas_peucker(sq_tolerance, &values, room, mark_room, answer);
+            let counted = is_counted(call);
+            answer_douglas_peucker(sq_tolerance, &values, room, mark_room, counted, answer);
         }
         b"reduce" => {
             let (tolerance, values) = (words.f64()?, words.i32s()?);
@@ -33,10 +36,10 @@ pub fn answer(words: &mut Words, answer: &mut Line) -> Option<()> {
             words.end()?;
             answer_reduce(tolerance, &values, rooms, answer);
         }
-        b"numbers" => {
+        call @ (b"numbers" | b"numbers_counted") => {
             let (values, room) = (words.i32s()?, words.room()?);
             words.end()?;
-            answer_numbers(&values, room, answer);
+            answer_numbers(&values, room, is_counted(call), answer);
         }
         b"zoom" => {
             let (sq_tolerance, values) = (words.f64()?, words.i32s()?);
@@ -47,6 +50,11 @@ pub fn answer(words: &mut Words, answer: &mut Line) -> Option<()> {
         _ => return None,
     }
     Some(())
+}
+
+/// Whether a call says how many distances were computed.
+fn is_counted(call: &[u8]) -> bool {
+    call.ends_with(b"_counted")
 }
 
 /// The rooms of the buffers lent to `reduce`.
@@ -78,6 +86,7 @@ fn answer_douglas_peucker(
     values: &[i32],
     room: usize,
     mark_room: usize,
+    counted: bool,
     answer: &mut Line,
 ) {
     let n = values.len() / 2;
@@ -88,11 +97,18 @@ fn answer_douglas_peucker(
         (BAD_TOLERANCE, document::bad_sq_tolerance(sq_tolerance)),
         (NO_ROOM, no_room(n, room) || mark_room < n),
     ]);
-    let (mut kept, mut marks) = (Vec::new(), Vec::new());
+    let (mut kept, mut marks, mut distances) = (Vec::new(), Vec::new(), 0);
     if refusal.is_none() {
-        (kept, marks) = placed::douglas_peucker(&points_of(values), sq_tolerance);
+        let points = points_of(values);
+        (kept, marks) = placed::douglas_peucker(&points, sq_tolerance);
+        if counted {
+            distances = visits::distances(&points, sq_tolerance);
+        }
     }
     put_number_and_count(answer, refusal, kept.len());
+    if counted {
+        answer.number(distances);
+    }
     answer.i32s(&lent(room, I32_MARKER, values_of(&kept)));
     answer.bytes(&lent(mark_room, BYTE_MARKER, marks));
 }
@@ -128,7 +144,7 @@ fn passes(points: &[PointI32], tolerance: f64, kept: &[PointI32]) -> (Vec<PointI
     (radial, marks)
 }
 
-fn answer_numbers(values: &[i32], room: usize, answer: &mut Line) {
+fn answer_numbers(values: &[i32], room: usize, counted: bool, answer: &mut Line) {
     let n = values.len() / 2;
     let refusal = lowest(&[
         (TOO_MANY, too_many(values)),
@@ -136,15 +152,21 @@ fn answer_numbers(values: &[i32], room: usize, answer: &mut Line) {
         (TOO_FEW, n == 0),
         (NO_ROOM, room < places(n)),
     ]);
-    let mut numbers = Vec::new();
+    let (mut numbers, mut distances) = (Vec::new(), 0);
     if refusal.is_none() {
         let points = points_of(values);
         numbers = numbers::numbers(&points);
+        if counted {
+            distances = visits::of_numbers(&points);
+        }
         if held::holds() {
             numbers::hold_against_rust(&points, &numbers);
         }
     }
     put_number_and_count(answer, refusal, numbers.len());
+    if counted {
+        answer.number(distances);
+    }
     answer.f64s(&lent(room, f64::from_bits(F64_MARKER), numbers));
 }
 

@@ -17,6 +17,14 @@ pub fn numbers(points: &[PointI32]) -> Vec<f64> {
 
 /// Splits the span; `around` is the least distance among the splits of the spans around it.
 fn split(points: &[PointI32], first: usize, last: usize, around: f64, numbers: &mut [f64]) {
+    let Some((index, distance)) = farthest(points, first, last) else { return };
+    numbers[index] = distance.min(around);
+    split(points, first, index, numbers[index], numbers);
+    split(points, index, last, numbers[index], numbers);
+}
+
+/// The splitting point of a span and its distance, where the span has an interior.
+pub(crate) fn farthest(points: &[PointI32], first: usize, last: usize) -> Option<(usize, f64)> {
     let mut greatest = None;
     for i in first + 1..last {
         let distance = sq_distance(points[i], points[first], points[last]);
@@ -24,10 +32,7 @@ fn split(points: &[PointI32], first: usize, last: usize, around: f64, numbers: &
             greatest = Some((i, distance));
         }
     }
-    let Some((index, distance)) = greatest else { return };
-    numbers[index] = distance.min(around);
-    split(points, first, index, numbers[index], numbers);
-    split(points, index, last, numbers[index], numbers);
+    greatest
 }
 
 /// The squared distance of `p` from the segment `a` to `b`, operation by operation as in the Rust's
