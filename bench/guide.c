@@ -473,6 +473,23 @@ static void six_douglas_peucker(const list *of) {
     }
 }
 
+// Answered is how many distances were computed, and not the count.
+static void six_douglas_peucker_counted(const list *of) {
+    for (int k = 0; k < 6; k++) {
+        uint64_t n = 0, distances = 0;
+        refused |= CALL(sandline_simplify_douglas_peucker_counted)(of->points, 2 * of->n, six[k], out, 2 * MOST, marks,
+                                                                   MOST, &n, &distances);
+        answered += distances;
+    }
+}
+
+static void numbers_counted(const list *of) {
+    uint64_t n = 0, distances = 0;
+    numbers_of = of;
+    refused |= CALL(sandline_numbers_counted)(of->points, 2 * of->n, numbers, MOST, &n, &distances);
+    answered += distances;
+}
+
 static void six_reduce(const list *of) {
     for (int k = 0; k < 6; k++) {
         uint64_t n = 0;
@@ -578,6 +595,11 @@ static const row rows[] = {
     {"calls", "radial pass, the six", &outline, NULL, NULL, six_radial, 4576},
     {"calls", "Douglas-Peucker, the six", &outline, NULL, NULL, six_douglas_peucker, 2860},
     {"calls", "Douglas-Peucker, the six", &simplified, NULL, NULL, six_douglas_peucker, 458},
+    {"calls", "Douglas-Peucker counted, the six", &outline, NULL, NULL, six_douglas_peucker_counted, 71093},
+    {"calls", "Douglas-Peucker counted, the six", &simplified, NULL, NULL, six_douglas_peucker_counted, 6114},
+    {"calls", "numbers counted", &outline, NULL, NULL, numbers_counted, 17068},
+    {"calls", "numbers counted", &simplified, NULL, NULL, numbers_counted, 1171},
+    {"calls", "numbers counted", &zigzag, NULL, NULL, numbers_counted, 522753},
     {"calls", "reduce, the six", &outline, NULL, NULL, six_reduce, 2858},
     {"calls", "reduce, the six", &simplified, NULL, NULL, six_reduce, 458},
     {"calls", "root", NULL, "2", NULL, root_of_two, 1},

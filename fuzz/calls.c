@@ -15,7 +15,7 @@
 #include "lent.h"
 #include "sandline.h"
 
-static lent *points, *numbers, *corners, *pixels, *file, *out, *scratch, *marks, *count, *last, *told[2];
+static lent *points, *numbers, *corners, *pixels, *file, *out, *scratch, *marks, *count, *distances, *last, *told[2];
 static size_t length, numbers_length, corners_length, width, height, bytes, room, scratch_room, mark_room, size;
 static int32_t x, y;
 static double ratio, segment, tolerance;
@@ -30,6 +30,7 @@ static const double *left_reals(const lent *l) { return (const double *)(const v
 #define INTS(l) AT(int32_t, l)
 #define REALS(l) AT(double, l)
 #define COUNT AT(size_t, count)
+#define DISTANCES AT(size_t, distances)
 
 // ---- what is counted, for the end of a run
 
@@ -69,8 +70,9 @@ static void judge_chart(void) {
 // The call refused: nothing is left but a count of 0.
 static void expect_untouched(void) {
     for (size_t k = 0; k < lents_used; k++)
-        if (&lents[k] != count) expect(is_old_from(&lents[k], 0), "a refusal writes");
+        if (&lents[k] != count && &lents[k] != distances) expect(is_old_from(&lents[k], 0), "a refusal writes");
     if (count) expect(*(const size_t *)(const void *)count->left == 0, "a refusal has a count");
+    if (distances) expect(*(const size_t *)(const void *)distances->left == 0, "a refusal has distances");
 }
 
 // Makes the call; whether it is done. Every number is expected from `least` but those of `open`, a bit for each.
@@ -344,11 +346,18 @@ static uint64_t call_douglas_peucker(void) {
     return sandline_simplify_douglas_peucker(INTS(points), length, tolerance, INTS(out), room, marks->at, mark_room,
                                              COUNT);
 }
+static uint64_t call_douglas_peucker_counted(void) {
+    return sandline_simplify_douglas_peucker_counted(INTS(points), length, tolerance, INTS(out), room, marks->at,
+                                                     mark_room, COUNT, DISTANCES);
+}
 static uint64_t call_reduce(void) {
     return sandline_reduce(INTS(points), length, tolerance, INTS(out), room, INTS(scratch), scratch_room, marks->at,
                            mark_room, COUNT);
 }
 static uint64_t call_numbers(void) { return sandline_numbers(INTS(points), length, REALS(out), room, COUNT); }
+static uint64_t call_numbers_counted(void) {
+    return sandline_numbers_counted(INTS(points), length, REALS(out), room, COUNT, DISTANCES);
+}
 static uint64_t call_zoom(void) {
     return sandline_zoom(INTS(points), length, REALS(numbers), numbers_length, tolerance, INTS(out), room, COUNT);
 }
@@ -398,16 +407,22 @@ static void run_radial(void) {
     if (is_done(call_radial)) expect_points_of_list(ints(points), n);
 }
 
-static void run_douglas_peucker(void) {
-    static int32_t zoomed[8194];
-    static double own[4096];
-    size_t n = lend_pass(false), kept = 0;
+// Points, tolerance and marks of Douglas-Peucker, and its refusals.
+static size_t lend_douglas_peucker(void) {
+    size_t n = lend_pass(false);
     tolerance = some_tolerance();
     mark_room = some_room(n, 1);
     marks = lend(mark_room, true);
     judge_tolerance(4294967296);
     applies(4, length == 0);
     applies(10, mark_room < n);
+    return n;
+}
+
+static void run_douglas_peucker(void) {
+    static int32_t zoomed[8194];
+    static double own[4096];
+    size_t n = lend_douglas_peucker(), kept = 0;
     if (!is_done(call_douglas_peucker)) return;
     expect_points_of_list(ints(points), n);
     expect(expect_marks(counted()) == n, "not a mark for each point");
@@ -415,6 +430,35 @@ static void run_douglas_peucker(void) {
                sandline_zoom(ints(points), length, own, n, tolerance, zoomed, 8194, &kept) == 0 && kept == counted() &&
                memcmp(zoomed, out->left, 2 * kept * sizeof(int32_t)) == 0,
            "not what a zoom by the numbers answers");
+}
+
+static void lend_distances(void) {
+    distances = lend(sizeof(size_t), true);
+}
+
+static size_t computed(void) { return *(const size_t *)(const void *)distances->left; }
+
+// Document 02, 8/13: at most (n - 2)(n - 1) / 2, and 0 below two. And the points inside the whole list are looked at.
+static void expect_distances(size_t n) {
+    expect(computed() <= (n < 2 ? 0 : (n - 2) * (n - 1) / 2), "more distances than there can be");
+    expect(computed() >= (n < 2 ? 0 : n - 2), "fewer distances than points inside");
+}
+
+// As the plain call, which answers the same.
+static void run_douglas_peucker_counted(void) {
+    static int32_t same[8194];
+    static uint8_t same_marks[4096];
+    size_t n = lend_douglas_peucker(), kept = 0;
+    lend_distances();
+    if (!is_done(call_douglas_peucker_counted)) return;
+    expect_points_of_list(ints(points), n);
+    expect(expect_marks(counted()) == n, "not a mark for each point");
+    expect_distances(n);
+    expect(sandline_simplify_douglas_peucker(ints(points), length, tolerance, same, 8194, same_marks, 4096, &kept) ==
+                   0 &&
+               kept == counted() && memcmp(same, out->left, 2 * kept * sizeof(int32_t)) == 0 &&
+               memcmp(same_marks, marks->left, n) == 0,
+           "not what the plain call answers");
 }
 
 static void run_reduce(void) {
@@ -438,7 +482,8 @@ static void run_reduce(void) {
     expect(memcmp(scratch->left, points->held, 8) == 0, "the radial list begins elsewhere");
 }
 
-static void run_numbers(void) {
+// Points and places of the numbers, and their refusals.
+static size_t lend_numbers(void) {
     lend_points(false);
     size_t n = length / 2;
     lend_out(places(n), sizeof(double));
@@ -446,12 +491,35 @@ static void run_numbers(void) {
     judge_points();
     applies(4, length == 0);
     applies(10, room < places(n));
+    return n;
+}
+
+static void run_numbers(void) {
+    size_t n = lend_numbers();
     if (!is_done(call_numbers)) return;
     const double *list = left_reals(out);
     expect(counted() == n && is_old_from(out, n * sizeof(double)), "not a number for each point");
     for (size_t k = 0; k < n; k++)
         expect(k == 0 || k == n - 1 ? list[k] == INFINITY : list[k] >= 0 && list[k] <= 4294967296,
                "a number that no distance has");
+}
+
+// As the plain call, which answers the same; and as many distances as Douglas-Peucker computes at 0.
+static void run_numbers_counted(void) {
+    static double same[4096];
+    static int32_t all_kept[8194];
+    static uint8_t all_marks[4096];
+    size_t n = lend_numbers(), made = 0, at_zero = 0;
+    lend_distances();
+    if (!is_done(call_numbers_counted)) return;
+    expect(counted() == n && is_old_from(out, n * sizeof(double)), "not a number for each point");
+    expect_distances(n);
+    expect(sandline_numbers(ints(points), length, same, 4096, &made) == 0 && made == n &&
+               memcmp(same, out->left, n * sizeof(double)) == 0,
+           "not what the plain call answers");
+    expect(sandline_simplify_douglas_peucker_counted(ints(points), length, 0, all_kept, 8194, all_marks, 4096, &made,
+                                                     &at_zero) == 0 && at_zero == computed(),
+           "other distances than by Douglas-Peucker at 0");
 }
 
 static void run_zoom(void) {
@@ -964,6 +1032,8 @@ static const struct {
     {"sandline_spiral_advance", run_spiral_advance},
     {"sandline_read_pbm", run_read_pbm},
     {"sandline_write_pbm", run_write_pbm},
+    {"sandline_simplify_douglas_peucker_counted", run_douglas_peucker_counted},
+    {"sandline_numbers_counted", run_numbers_counted},
 };
 enum { CALLS = sizeof all / sizeof *all };
 
@@ -971,7 +1041,7 @@ enum { CALLS = sizeof all / sizeof *all };
 static void print_tally(void) {
     uint64_t done = 0, refused = 0;
     for (unsigned k = 0; k < CALLS; k++) {
-        printf("call %-34s", all[k].name);
+        printf("call %-42s", all[k].name);
         for (int n = 0; n <= MOST_NUMBER; n++) {
             *(n ? &refused : &done) += tally[k][n];
             if (tally[k][n]) printf(" %d:%llu", n, (unsigned long long)tally[k][n]);
@@ -991,7 +1061,7 @@ int LLVMFuzzerInitialize(int *argc, char ***argv) {
 int LLVMFuzzerTestOneInput(const uint8_t *data, size_t data_length) {
     input = data, input_left = data_length;
     lend_nothing();
-    count = NULL;
+    count = distances = NULL;
     least = 0;
     current = byte() % CALLS;
     doing = all[current].name;

@@ -32,8 +32,8 @@ void say(const char *text) {
     ask(WRITE_TEXT, text);
 }
 
-void say_number(uint32_t number) {
-    char digits[11];
+void say_number(uint64_t number) {
+    char digits[21];
     size_t at = sizeof digits - 1;
     digits[at] = 0;
     do {
@@ -66,24 +66,24 @@ void end(int status) {
     for (;;) continue;
 }
 
-// ---- the clock: the processor's own timer, which counts down 24 bits, one in 40 instructions
+// ---- the clock: a timer of the board's, which counts down 32 bits, one in 40 instructions
 
-#define SYSTICK_CONTROL (*(volatile uint32_t *)0xe000e010)
-#define SYSTICK_RELOAD (*(volatile uint32_t *)0xe000e014)
-#define SYSTICK_NOW (*(volatile uint32_t *)0xe000e018)
+#define TIMER_CONTROL (*(volatile uint32_t *)0x40000000)
+#define TIMER_NOW (*(volatile uint32_t *)0x40000004)
+#define TIMER_RELOAD (*(volatile uint32_t *)0x40000008)
 
 static void start_clock(void) {
-    SYSTICK_RELOAD = 0xffffff;
-    SYSTICK_NOW = 0;
-    SYSTICK_CONTROL = 5;
+    TIMER_RELOAD = UINT32_MAX;
+    TIMER_NOW = UINT32_MAX;
+    TIMER_CONTROL = 1;
 }
 
 uint32_t now(void) {
-    return 0xffffff - SYSTICK_NOW;
+    return UINT32_MAX - TIMER_NOW;
 }
 
-uint32_t instructions_since(uint32_t time) {
-    return 40 * ((now() - time) & 0xffffff);
+uint64_t instructions_since(uint32_t time) {
+    return (uint64_t)40 * (now() - time);
 }
 
 // ---- the stack
@@ -120,12 +120,12 @@ void reset(void) {
     end(main());
 }
 
-// An instruction that cannot be done. The library has none: so the stack has run out, or the guide's own code is wrong.
+// An instruction that cannot be done. The library has none, and takes no more stack than is said of its calls: so the
+// stack of memory.ld is too short, or the guide's own code is wrong.
 void fault(void) {
     uintptr_t stack;
     __asm__ volatile("mrs %0, psp" : "=r"(stack));
-    say(stack < (uintptr_t)stack_bottom + 1024 ? "guide: the stack is full, the outline's splits go too deep\n"
-                                               : "guide: a fault\n");
+    say(stack < (uintptr_t)stack_bottom + 1024 ? "guide: the stack is full\n" : "guide: a fault\n");
     end(3);
 }
 

@@ -7,7 +7,7 @@
 
 // Text to whoever watches.
 void say(const char *text);
-void say_number(uint32_t number);
+void say_number(uint64_t number);
 
 // A file beside the emulator, of so many bytes.
 void save(const char *name, const uint8_t *bytes, size_t length);
@@ -15,9 +15,9 @@ void save(const char *name, const uint8_t *bytes, size_t length);
 // Ends the program: 0 if all went well.
 __attribute__((noreturn)) void end(int status);
 
-// The time, and the instructions since then: in steps of 40, and up to 671 million.
+// The time, and the instructions since then: in steps of 40, and up to 171 thousand million.
 uint32_t now(void);
-uint32_t instructions_since(uint32_t time);
+uint64_t instructions_since(uint32_t time);
 
 // Paints what is free of the stack. Bytes of it that are in use or have been since it was painted, as far down as any
 // call went; and bytes in all.

@@ -15,7 +15,7 @@ __asm__(".section .survey, \"a\"\n.global survey, survey_end\nsurvey: .incbin \"
 #define PARTY_Y ((int)height / 2)
 #endif
 
-// A zigzag of so many points is worked on first, to see how deep the stack lets splits go.
+// A zigzag of so many points is worked on first, to see what the worst list takes.
 #ifndef ZIGZAG
 #define ZIGZAG 0
 #endif
@@ -33,10 +33,11 @@ static uint64_t points;             // how many it has
 
 static void said(const char *what, uint64_t number) {
     say(what);
-    say_number((uint32_t)number);
+    say_number(number);
 }
 
-static uint32_t in_all, most_stack;
+static uint64_t in_all;
+static uint32_t most_stack;
 
 static uint32_t begin(void) {
     paint_stack();
@@ -44,7 +45,7 @@ static uint32_t begin(void) {
 }
 
 // A step, and the line that tells of it up to its last words.
-static void took(const char *step, uint32_t instructions) {
+static void took(const char *step, uint64_t instructions) {
     const uint32_t stack = (uint32_t)stack_used();
     in_all += instructions;
     if (stack > most_stack) most_stack = stack;
@@ -162,18 +163,19 @@ static void draw(int zoom, const int32_t *list, uint64_t many) {
     draw_label(&v, many);
 }
 
-// The numbers of a zigzag of which each split takes one point off: so deep do its splits go.
+// The numbers of a zigzag of which each split takes one point off: no list of so many points has more distances.
 static void zigzag(int32_t many) {
-    uint64_t length;
+    uint64_t length, distances;
     for (int32_t k = 0; k < many; k++) {
         walked[2 * k] = k;
         walked[2 * k + 1] = k % 2 * k;
     }
     const uint32_t time = begin();
-    need(sandline_numbers(walked, 2 * (uint64_t)many, numbers, MOST_POINTS, &length), "the zigzag");
+    need(sandline_numbers_counted(walked, 2 * (uint64_t)many, numbers, MOST_POINTS, &length, &distances), "the zigzag");
     took("zigzag     ", instructions_since(time));
     said(", ", length);
-    say(" points\n");
+    said(" points, ", distances);
+    say(" distances\n");
     in_all = 0;
 }
 
@@ -213,7 +215,8 @@ static void find_outline(void) {
 
 static void draw_zooms(void) {
     uint64_t shown[ZOOMS];
-    uint32_t zooming = 0, drawing = 0, time = begin();
+    uint64_t zooming = 0, drawing = 0;
+    uint32_t time = begin();
     clear_screen();
     draw_frames();
     drawing += instructions_since(time);

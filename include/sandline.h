@@ -43,8 +43,8 @@
 // A call that can refuse returns 0 (SANDLINE_DONE), or the least number below that applies; a picture that cannot be
 // read is told before no room, 12 before 10.
 //
-// Refused: the count, if the call has one, is set to 0, and everything else that was lent holds what it held,
-// scratch too.
+// Refused: the count, if the call has one, is set to 0 (a count of distances too), and everything else that was lent
+// holds what it held, scratch too.
 //
 // Done: the answer stands at the start of its buffer, and places behind it hold what they held.
 //
@@ -61,7 +61,7 @@
 //   as its type says. They need not be set if the call only writes them.
 // - Every pointer is aligned as C asks for its type.
 // - What a call may write (all that is not const) shares no byte with anything else that is handed to the
-//   same call; count, scratch and marks too. What is only read may overlap with what is only read.
+//   same call; count, distances, scratch and marks too. What is only read may overlap with what is only read.
 // - A bool is 0 or 1 in memory.
 // - Doubles are rounded to nearest, and small ones are kept, as C has it by default: no other rounding mode,
 //   no flushing to zero.
@@ -74,11 +74,8 @@
 // what memset takes (tools/stack prints them). Those of a Cortex-M, which are more, with libgcc's routines and memset,
 // stand in docs/COST.md.
 //
-// Douglas-Peucker and the numbers call themselves, by levels: a list whose every split takes one point off goes as deep
-// as it is long, a shore far less. NOTHING STOPS A LIST THAT GOES DEEPER THAN THE STACK HOLDS: the call then writes
-// past the end of the stack. A level takes 144 bytes on x86-64 and at most so on a Cortex-M4, 168 on a Cortex-M0+. The
-// guide, with 114 KiB for its stack, can have the numbers of every list of 808 points (727 on a Cortex-M0+); of what
-// goes deeper it makes a fault (guide/README.md).
+// No call calls itself: a figure is the most that a call takes, of every list. Where Douglas-Peucker and the numbers
+// split a list, the parts that wait stand in a list of twelve, of which no more than eleven are ever taken.
 #ifndef SANDLINE_H
 #define SANDLINE_H
 
@@ -86,9 +83,9 @@
 #include <stdint.h>
 
 // The version of this header, and of the archive that is made beside it (docs/CHANGES.md).
-#define SANDLINE_VERSION "2.0.0"
+#define SANDLINE_VERSION "2.1.0"
 #define SANDLINE_VERSION_MAJOR 2
-#define SANDLINE_VERSION_MINOR 0
+#define SANDLINE_VERSION_MINOR 1
 #define SANDLINE_VERSION_PATCH 0
 
 #ifdef __cplusplus
@@ -316,6 +313,10 @@ uint8_t sandline_subdivide_keep_corners(const double *points, uint64_t points_le
 //
 // For six zooms of one list call sandline_numbers once and sandline_zoom six times.
 //
+// The work of Douglas-Peucker and of the numbers is squared distances, from a point to the segment between the ends of a
+// span: of every span that they come to, one for each point inside it. For n points these are at most
+// (n - 2)(n - 1) / 2, and none below two. The calls whose names end in _counted also say how many they were.
+//
 // Each refuses too many points (2), a bad list (3), a bad tolerance (5) and no room (10): 2n elements of out
 // for n points, 4 for a single one, and what is said of the call.
 
@@ -328,23 +329,35 @@ uint8_t sandline_simplify_radial_dist(const int32_t *points, uint64_t length, do
 // Douglas-Peucker at a SQUARED tolerance, 0 to 4,294,967,296. Both ends stay; one point is answered twice.
 // After it marks starts with n bytes, 1 for each point kept and 0 for each dropped.
 // Room: n marks too. Refuses a list of no points (4) too.
-// Stack of sandline_simplify_douglas_peucker: 296 bytes, and 144 for each further level, n - 2 of them at most.
+// Stack of sandline_simplify_douglas_peucker: 408 bytes.
 uint8_t sandline_simplify_douglas_peucker(const int32_t *points, uint64_t length, double tolerance, int32_t *out,
                                           uint64_t room, uint8_t *marks, uint64_t mark_room, uint64_t *count);
+
+// The same, and in distances how many were computed: 0 where it is refused.
+// Stack of sandline_simplify_douglas_peucker_counted: 408 bytes.
+uint8_t sandline_simplify_douglas_peucker_counted(const int32_t *points, uint64_t length, double tolerance,
+                                                  int32_t *out, uint64_t room, uint8_t *marks, uint64_t mark_room,
+                                                  uint64_t *count, uint64_t *distances);
 
 // The radial pass at half the squared tolerance, then Douglas-Peucker. The tolerance is in PIXELS, 0 to 65,536.
 // Up to two points, and any list at tolerance 0, are answered whole; else scratch starts with the list that
 // the radial pass left, and marks with one byte for each point of that.
 // Room: 2n elements of scratch and n marks too.
-// Stack of sandline_reduce: 312 bytes, and 144 for each further level, n - 2 of them at most.
+// Stack of sandline_reduce: 440 bytes.
 uint8_t sandline_reduce(const int32_t *points, uint64_t length, double tolerance, int32_t *out, uint64_t room,
                         int32_t *scratch, uint64_t scratch_room, uint8_t *marks, uint64_t mark_room, uint64_t *count);
 
 // One number for each point: at exactly the squared tolerances below it Douglas-Peucker keeps the point. Both
 // ends have infinity. Count is n.
 // Room: n doubles, 2 where n is 1. No tolerance; refuses a list of no points (4) too.
-// Stack of sandline_numbers: 216 bytes, and 144 for each further level, n - 2 of them at most.
+// Stack of sandline_numbers: 392 bytes.
 uint8_t sandline_numbers(const int32_t *points, uint64_t length, double *out, uint64_t room, uint64_t *count);
+
+// The same, and in distances how many were computed: as many as by Douglas-Peucker at the squared tolerance 0, and 0
+// where it is refused.
+// Stack of sandline_numbers_counted: 392 bytes.
+uint8_t sandline_numbers_counted(const int32_t *points, uint64_t length, double *out, uint64_t room, uint64_t *count,
+                                 uint64_t *distances);
 
 // The points whose number is greater than a SQUARED tolerance, with both ends: what Douglas-Peucker answers at
 // that tolerance, at the cost of one comparison for each point. The numbers are those of the same list; numbers_length
@@ -369,7 +382,7 @@ uint64_t sandline_sqrt_bits(uint64_t bits);
 // It is written from out[at] on, also with no end of line, and the place behind it is returned; where it does not fit
 // nothing is written, and at itself is returned. An answer has 8 digits at least, and 32,768 at most.
 // Whatever the line holds is answered; what is no frame by ff0b0000. Out and at are in digits.
-// Stack of sandline_answer: 119,232 bytes, and 144 for each further level (frames 03 and 04).
+// Stack of sandline_answer: 119,304 bytes.
 uint64_t sandline_answer(const uint8_t *line, uint64_t length, uint8_t *out, uint64_t room, uint64_t at);
 
 #ifdef __cplusplus

@@ -19,7 +19,7 @@
 #define OLD_BYTE 0xee
 #define OLD_COUNT 77
 
-static uint64_t count;
+static uint64_t count, distances;
 static int32_t out[20], scratch[12], place[2];
 static uint8_t marks[8], flags[12], text[64];
 static double reals[20];
@@ -64,6 +64,7 @@ static void fill(void) {
     memset(text, '.', sizeof text);
     finished = false;
     count = OLD_COUNT;
+    distances = OLD_COUNT;
     said[0] = 0;
 }
 
@@ -81,6 +82,12 @@ static void expect(const char *call, const char *source, const char *expected) {
 // Number and count of a call.
 static void put_answer(uint8_t number) {
     put("%d %llu", number, (unsigned long long)count);
+}
+
+// The same of a call whose work is counted, and its distances.
+static void put_work(uint8_t number) {
+    put_answer(number);
+    put(" %llu", (unsigned long long)distances);
 }
 
 // ---- the lists
@@ -452,6 +459,30 @@ static void zooms(void) {
     put_answer(sandline_simplify_douglas_peucker(zigzag, 8, 4294967297.0, out, 8, marks, 4, &count));
     expect("sandline_simplify_douglas_peucker", "refusal", "5 0");
 
+    put_work(sandline_simplify_douglas_peucker_counted(zigzag, 8, 16, out, 8, marks, 4, &count, &distances));
+    put_values(out, 6);
+    put_bytes(marks, 5);
+    // the whole list alone, with two points inside
+    expect("sandline_simplify_douglas_peucker_counted", "02, 8/13", "0 2 2 0,0,8,0,-99999,-99999 1,0,0,1,238");
+    put_work(sandline_simplify_douglas_peucker_counted(zigzag, 8, 15, out, 8, marks, 4, &count, &distances));
+    put_values(out, 10);
+    put_bytes(marks, 5);
+    // and the part from (0,0) to (0,4), with one: 3, the most that four points have
+    expect("sandline_simplify_douglas_peucker_counted", "02, 8/13",
+           "0 4 3 0,0,8,2,0,4,8,0,-99999,-99999 1,1,1,1,238");
+    put_work(sandline_simplify_douglas_peucker_counted(line + 2, 2, 16, out, 4, marks, 1, &count, &distances));
+    put_values(out, 6);
+    put_bytes(marks, 2);
+    expect("sandline_simplify_douglas_peucker_counted", "02, 8/13", "0 2 0 3,4,3,4,-99999,-99999 1,238");
+    put_work(sandline_simplify_douglas_peucker_counted(NULL, 0, NAN, NULL, 0, NULL, 0, &count, &distances));
+    expect("sandline_simplify_douglas_peucker_counted", "refusal", "4 0 0"); // before 5
+    put_work(sandline_simplify_douglas_peucker_counted(zigzag, 8, 4294967297.0, out, 8, marks, 3, &count, &distances));
+    expect("sandline_simplify_douglas_peucker_counted", "refusal", "5 0 0"); // before 10
+    put_work(sandline_simplify_douglas_peucker_counted(zigzag, 8, 16, out, 8, marks, 3, &count, &distances));
+    put_values(out, 2);
+    put_bytes(marks, 4);
+    expect("sandline_simplify_douglas_peucker_counted", "refusal", "10 0 0 -99999,-99999 238,238,238,238");
+
     put_answer(sandline_reduce(pixel, 10, 3, out, 10, scratch, 10, marks, 5, &count));
     put_values(out, 6);
     put_values(scratch, 4);
@@ -480,6 +511,7 @@ static void zooms(void) {
     expect("sandline_reduce", "refusal", "10 0 -99999,-99999 -99999,-99999 238,238");
 
     {
+        const int32_t straight[] = {0, 0, 3, 4, 6, 8, 9, 12};
         double numbers[4];
         put_answer(sandline_numbers(zigzag, 8, reals, 4, &count));
         put_reals(reals, 5);
@@ -491,6 +523,21 @@ static void zooms(void) {
         put_answer(sandline_numbers(zigzag, 0, reals, 4, &count));
         put_reals(reals, 1);
         expect("sandline_numbers", "refusal", "4 0 -99999");
+
+        put_work(sandline_numbers_counted(zigzag, 8, reals, 4, &count, &distances));
+        put_reals(reals, 5);
+        expect("sandline_numbers_counted", "02, 8/13", "0 4 3 inf,16,16,inf,-99999"); // as at tolerance 0
+        put_work(sandline_numbers_counted(straight, 8, reals, 4, &count, &distances));
+        put_reals(reals, 5);
+        expect("sandline_numbers_counted", "02, 8/13", "0 4 2 inf,0,0,inf,-99999"); // no split at tolerance 0
+        put_work(sandline_numbers_counted(line, 2, reals, 2, &count, &distances));
+        put_reals(reals, 2);
+        expect("sandline_numbers_counted", "02, 8/13", "0 1 0 inf,-99999"); // a single point
+        put_work(sandline_numbers_counted(zigzag, 8, reals, 3, &count, &distances));
+        put_reals(reals, 1);
+        expect("sandline_numbers_counted", "refusal", "10 0 0 -99999");
+        put_work(sandline_numbers_counted(far_off, 4, NULL, 0, &count, &distances));
+        expect("sandline_numbers_counted", "refusal", "3 0 0"); // before 10
 
         put_answer(sandline_zoom(zigzag, 8, numbers, 4, 16, out, 8, &count));
         put_values(out, 6);

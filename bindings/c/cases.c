@@ -210,11 +210,17 @@ static void show_bytes(bytes lent) {
 }
 
 // What a count holds before a call, to see that it is written.
-static uint64_t count = 77;
+static uint64_t count = 77, distances = 77;
 
 static void show_answer(uint8_t number) {
     printf("%d %llu", number, (unsigned long long)count);
     count = 77;
+}
+
+static void show_work(uint8_t number) {
+    show_answer(number);
+    printf(" %llu", (unsigned long long)distances);
+    distances = 77;
 }
 
 // ---- the calls
@@ -337,6 +343,16 @@ static void douglas_peucker(void) {
     show_bytes(marks);
 }
 
+static void douglas_peucker_counted(void) {
+    double tolerance = real();
+    values points = values_list(), out = lend_values();
+    bytes marks = lend_bytes();
+    show_work(sandline_simplify_douglas_peucker_counted(points.at, points.length, tolerance, AT(out), out.length,
+                                                        AT(marks), marks.length, &count, &distances));
+    show_values(out);
+    show_bytes(marks);
+}
+
 static void reduce(void) {
     double tolerance = real();
     values points = values_list(), out = lend_values(), scratch = lend_values();
@@ -352,6 +368,13 @@ static void numbers(void) {
     values points = values_list();
     reals out = lend_reals();
     show_answer(sandline_numbers(points.at, points.length, AT(out), out.length, &count));
+    show_reals(out);
+}
+
+static void numbers_counted(void) {
+    values points = values_list();
+    reals out = lend_reals();
+    show_work(sandline_numbers_counted(points.at, points.length, AT(out), out.length, &count, &distances));
     show_reals(out);
 }
 
@@ -471,8 +494,10 @@ static const struct {
     {"simplify", simplify},
     {"radial", radial},
     {"douglas_peucker", douglas_peucker},
+    {"douglas_peucker_counted", douglas_peucker_counted},
     {"reduce", reduce},
     {"numbers", numbers},
+    {"numbers_counted", numbers_counted},
     {"zoom", zoom},
     {"sqrt", root},
     {"sqrt_bits", root_bits},

@@ -2,8 +2,8 @@
 //! long as it says, and shares no byte with another one that may be written: that is what the calls ask for.
 //!
 //! The calls take and answer 64 bits on every processor, where a `usize` has 32 or 64. So a length goes in whole.
-//! What comes back fits: it is at most the length of a slice that was lent, or the 262,144 pixels of a chart, or it
-//! is what went in.
+//! What comes back fits: it is at most the length of a slice that was lent, or the 262,144 pixels of a chart, or the
+//! 8,382,465 distances of 4,096 points, or it is what went in.
 
 const _: () = assert!(usize::BITS == 32 || usize::BITS == 64);
 

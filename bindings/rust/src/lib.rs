@@ -47,8 +47,8 @@
 //! for an M0 or M0+. It is compiled for soft floats: build for `thumbv7em-none-eabi` or `thumbv6m-none-eabi`, and for
 //! no target that ends in `eabihf`. tools/archive says what else it asks of the program.
 //!
-//! The repository's include/sandline.h says what stack each call takes. [`numbers`],
-//! [`simplify_douglas_peucker`] and [`reduce()`] call themselves, at worst as deep as the list is long.
+//! The repository's include/sandline.h says what stack each call takes: no call calls itself, so that it is the
+//! same for every list.
 #![no_std]
 #![warn(missing_docs)]
 
@@ -71,7 +71,10 @@ pub use chart::Chart;
 pub use corners::{find_corners, Pair};
 pub use frames::answer;
 pub use pbm::{read_pbm, write_pbm, Picture};
-pub use reduce::{numbers, reduce, simplify_douglas_peucker, simplify_radial_dist, zoom};
+pub use reduce::{
+    numbers, numbers_counted, reduce, simplify_douglas_peucker, simplify_douglas_peucker_counted,
+    simplify_radial_dist, zoom, Work,
+};
 pub use refusal::Refusal;
 pub use simplify::{limit_penalties, remove_staircase, simplify};
 pub use smooth::{subdivide_keep_corners, Settings, Subdivided};

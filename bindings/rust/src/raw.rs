@@ -157,6 +157,17 @@ extern "C" {
         mark_room: u64,
         count: *mut u64,
     ) -> u8;
+    pub fn sandline_simplify_douglas_peucker_counted(
+        points: *const i32,
+        length: u64,
+        tolerance: f64,
+        out: *mut i32,
+        room: u64,
+        marks: *mut u8,
+        mark_room: u64,
+        count: *mut u64,
+        distances: *mut u64,
+    ) -> u8;
     pub fn sandline_reduce(
         points: *const i32,
         length: u64,
@@ -175,6 +186,14 @@ extern "C" {
         out: *mut f64,
         room: u64,
         count: *mut u64,
+    ) -> u8;
+    pub fn sandline_numbers_counted(
+        points: *const i32,
+        length: u64,
+        out: *mut f64,
+        room: u64,
+        count: *mut u64,
+        distances: *mut u64,
     ) -> u8;
     pub fn sandline_zoom(
         points: *const i32,

@@ -1,8 +1,28 @@
 //! Zooms: fewer points, the wider the tolerance.
 
-use crate::lent::{lent, lent_mut};
-use crate::refusal::counted;
+use crate::lent::{lent, lent_mut, narrow};
+use crate::refusal::{counted, handed};
 use crate::{raw, Point, Refusal};
+
+/// What a call answers whose work is counted.
+///
+/// That work is squared distances, from a point to the segment between the ends of a span: of every span that
+/// the call comes to, one for each point inside it. For n points these are at most (n - 2)(n - 1) / 2, and none
+/// below two.
+#[derive(Clone, Copy, Debug, PartialEq, Eq, Hash)]
+pub struct Work {
+    /// How many places it filled.
+    pub points: usize,
+    /// How many distances it computed.
+    pub distances: usize,
+}
+
+/// What a call answers that puts a count and its distances in place of those it is lent.
+fn worked(call: impl FnOnce(&mut u64, &mut u64) -> u8) -> Result<Work, Refusal> {
+    let (mut count, mut distances) = (0, 0);
+    let number = call(&mut count, &mut distances);
+    handed(number, Work { points: narrow(count), distances: narrow(distances) })
+}
 
 /// The radial pass: keeps a point if it lies farther than the tolerance from the last one kept, and the
 /// first and the last. The tolerance is squared, 0 to 4,294,967,296 square pixels.
@@ -64,6 +84,47 @@ pub fn simplify_douglas_peucker(
     })
 }
 
+/// [`simplify_douglas_peucker`], and how many distances were computed.
+///
+/// ```
+/// use sandline::{simplify_douglas_peucker_counted, Refusal, Work};
+///
+/// let zigzag = [[0, 0], [8, 2], [0, 4], [8, 0]];
+/// let (mut out, mut marks) = ([[9; 2]; 4], [9; 4]);
+/// // The whole list alone, with two points inside.
+/// let work = simplify_douglas_peucker_counted(&zigzag, 16.0, &mut out, &mut marks)?;
+/// assert_eq!(work, Work { points: 2, distances: 2 });
+/// assert_eq!(marks, [1, 0, 0, 1]);
+/// // And the part up to (0,4), with one.
+/// let work = simplify_douglas_peucker_counted(&zigzag, 15.0, &mut out, &mut marks)?;
+/// assert_eq!(work, Work { points: 4, distances: 3 });
+/// assert_eq!(out, zigzag);
+/// # Ok::<(), Refusal>(())
+/// ```
+pub fn simplify_douglas_peucker_counted(
+    points: &[Point],
+    sq_tolerance: f64,
+    out: &mut [Point],
+    marks: &mut [u8],
+) -> Result<Work, Refusal> {
+    let (points, length) = lent(points.as_flattened());
+    let (out, room) = lent_mut(out.as_flattened_mut());
+    let (marks, mark_room) = lent_mut(marks);
+    worked(|count, distances| unsafe {
+        raw::sandline_simplify_douglas_peucker_counted(
+            points,
+            length,
+            sq_tolerance,
+            out,
+            room,
+            marks,
+            mark_room,
+            count,
+            distances,
+        )
+    })
+}
+
 /// The radial pass at half the squared tolerance, and then Douglas-Peucker. The tolerance is in pixels, 0
 /// to 65,536. Up to two points, and any list at tolerance 0, are answered whole; else `scratch` then starts
 /// with what the radial pass left, and `marks` with a byte for each point of that.
@@ -119,6 +180,28 @@ pub fn numbers(points: &[Point], out: &mut [f64]) -> Result<usize, Refusal> {
     let (points, length) = lent(points.as_flattened());
     let (out, room) = lent_mut(out);
     counted(|count| unsafe { raw::sandline_numbers(points, length, out, room, count) })
+}
+
+/// [`numbers`], and how many distances were computed: as many as by Douglas-Peucker at the squared tolerance 0.
+///
+/// ```
+/// use sandline::{numbers_counted, Refusal, Work};
+///
+/// let zigzag = [[0, 0], [8, 2], [0, 4], [8, 0]];
+/// let mut out = [0.0; 4];
+/// assert_eq!(numbers_counted(&zigzag, &mut out), Ok(Work { points: 4, distances: 3 }));
+/// assert_eq!(out, [f64::INFINITY, 16.0, 16.0, f64::INFINITY]);
+/// // All on one line: nothing is split.
+/// let line = [[0, 0], [3, 4], [6, 8], [9, 12]];
+/// assert_eq!(numbers_counted(&line, &mut out), Ok(Work { points: 4, distances: 2 }));
+/// assert_eq!(numbers_counted(&line, &mut out[..3]), Err(Refusal::NoRoom));
+/// ```
+pub fn numbers_counted(points: &[Point], out: &mut [f64]) -> Result<Work, Refusal> {
+    let (points, length) = lent(points.as_flattened());
+    let (out, room) = lent_mut(out);
+    worked(|count, distances| unsafe {
+        raw::sandline_numbers_counted(points, length, out, room, count, distances)
+    })
 }
 
 /// Puts the points whose number is greater than a squared tolerance, with both ends, at the start of `out`:

@@ -30,9 +30,9 @@ use Rattle.point.specs.Points.{pointAt}
 use Rattle.pbm.specs.Read.{readOf}
 use Rattle.pbm.specs.Write.{writtenOf}
 use Rattle.reduce.specs.Radial.{radialOf}
-use Rattle.reduce.specs.DouglasPeucker.{douglasPeuckerOf}
+use Rattle.reduce.specs.DouglasPeucker.{douglasPeuckerOf, countedDouglasPeuckerOf}
 use Rattle.reduce.specs.Reduce.{reduceOf}
-use Rattle.reduce.specs.Numbers.{numberedOf}
+use Rattle.reduce.specs.Numbers.{numberedOf, countedNumberedOf}
 use Rattle.reduce.specs.Zoom.{zoomOf}
 use Rattle.simplify.specs.Staircase.{staircaseOf}
 use Rattle.simplify.specs.Penalties.{penaltiesOf}
@@ -44,7 +44,7 @@ use Rattle.sqrt.specs.Root.{rootOf}
 use Rattle.texts.specs.Put.{put, Placed}
 use Rattle.util.specs.Area.{signedAreaOf}
 use Rattle.walker.specs.Walk.{walked}
-use Rattle.sandline_c.specs.Handed.{answerForC, walkForC, pictureForC, roundForC, startForC, areaForC, signedAreaForC, midPointForC, lengthForC, crossingForC, spiralForC, advanceForC}
+use Rattle.sandline_c.specs.Handed.{answerForC, countedForC, walkForC, pictureForC, roundForC, startForC, areaForC, signedAreaForC, midPointForC, lengthForC, crossingForC, spiralForC, advanceForC}
 use Rattle.sandline_c.specs.Read.{chartFrom, pointFrom, pointF64From, pointF64At, pairFrom, settingsFrom, crossingFrom}
 use Rattle.sandline_c.proofs.sqrt_c.sandline_sqrt.Reads.{Post as Sqrt}
 use Rattle.sandline_c.proofs.sqrt_c.sandline_sqrt_bits.Reads.{Post as Sqrt-bits}
@@ -70,8 +70,10 @@ use Rattle.sandline_c.proofs.simplify_c.sandline_limit_penalties.Reads.
 use Rattle.sandline_c.proofs.simplify_c.sandline_simplify.Reads.{Post as Simplify}
 use Rattle.sandline_c.proofs.reduce_c.sandline_simplify_radial_dist.Reads.{Post as Simplify-radial-dist}
 use Rattle.sandline_c.proofs.reduce_c.sandline_simplify_douglas_peucker.Reads.{Post as Simplify-douglas-peucker}
+use Rattle.sandline_c.proofs.reduce_c.sandline_simplify_douglas_peucker_counted.Reads.{Post as Simplify-douglas-peucker-counted}
 use Rattle.sandline_c.proofs.reduce_c.sandline_reduce.Reads.{Post as Reduce}
 use Rattle.sandline_c.proofs.reduce_c.sandline_numbers.Reads.{Post as Numbers}
+use Rattle.sandline_c.proofs.reduce_c.sandline_numbers_counted.Reads.{Post as Numbers-counted}
 use Rattle.sandline_c.proofs.reduce_c.sandline_zoom.Reads.{Post as Zoom}
 use Rattle.sandline_c.proofs.spiral_c.sandline_spiral as spiral
 use Rattle.sandline_c.proofs.spiral_c.sandline_spiral_advance as spiral-advance
@@ -151,11 +153,17 @@ simplify-radial-dist-determined = same (λ x. answerForC (radialOf (x .0) (x .1)
 pub simplify-douglas-peucker-determined : Determined (List ℤ × Float × List ℤ × List ℕ) (Outcome ℕ ((List ℤ × List ℕ) × List ℕ)) Simplify-douglas-peucker (λ _ a. (now (a .0), a .1 .0, now (a .1 .1 .0), now (a .1 .1 .1 .0))) (λ _ r s. record { answer = r; out = ((now (s .1 .1 .0), now (s .1 .1 .1 .0)), now (s .1 .1 .1 .1 .0)) })
 simplify-douglas-peucker-determined = same (λ x. answerForC (douglasPeuckerOf (x .0) (x .1) (x .2) (x .3))) (λ _ a r s p. p)
 
+pub simplify-douglas-peucker-counted-determined : Determined (List ℤ × Float × List ℤ × List ℕ) (Outcome ℕ ((List ℤ × List ℕ) × List ℕ × List ℕ)) Simplify-douglas-peucker-counted (λ _ a. (now (a .0), a .1 .0, now (a .1 .1 .0), now (a .1 .1 .1 .0))) (λ _ r s. record { answer = r; out = ((now (s .1 .1 .0), now (s .1 .1 .1 .0)), now (s .1 .1 .1 .1 .0), now (s .1 .1 .1 .1 .1 .0)) })
+simplify-douglas-peucker-counted-determined = same (λ x. countedForC (countedDouglasPeuckerOf (x .0) (x .1) (x .2) (x .3))) (λ _ a r s p. p)
+
 pub reduce-determined : Determined (List ℤ × Float × List ℤ × List ℤ × List ℕ) (Outcome ℕ ((List ℤ × List ℤ × List ℕ) × List ℕ)) Reduce (λ _ a. (now (a .0), a .1 .0, now (a .1 .1 .0), now (a .1 .1 .1 .0), now (a .1 .1 .1 .1 .0))) (λ _ r s. record { answer = r; out = ((now (s .1 .1 .0), now (s .1 .1 .1 .0), now (s .1 .1 .1 .1 .0)), now (s .1 .1 .1 .1 .1 .0)) })
 reduce-determined = same (λ x. answerForC (reduceOf (x .0) (x .1) (x .2) (x .3) (x .4))) (λ _ a r s p. p)
 
 pub numbers-determined : Determined (List ℤ × List Float) (Outcome ℕ (List Float × List ℕ)) Numbers (λ _ a. (now (a .0), now (a .1 .0))) (λ _ r s. record { answer = r; out = (now (s .1 .0), now (s .1 .1 .0)) })
 numbers-determined = same (λ x. answerForC (numberedOf (x .0) (x .1))) (λ _ a r s p. p)
+
+pub numbers-counted-determined : Determined (List ℤ × List Float) (Outcome ℕ (List Float × List ℕ × List ℕ)) Numbers-counted (λ _ a. (now (a .0), now (a .1 .0))) (λ _ r s. record { answer = r; out = (now (s .1 .0), now (s .1 .1 .0), now (s .1 .1 .1 .0)) })
+numbers-counted-determined = same (λ x. countedForC (countedNumberedOf (x .0) (x .1))) (λ _ a r s p. p)
 
 pub zoom-determined : Determined (List ℤ × List Float × Float × List ℤ) (Outcome ℕ (List ℤ × List ℕ)) Zoom (λ _ a. (now (a .0), now (a .1 .0), a .1 .1 .0, now (a .1 .1 .1 .0))) (λ _ r s. record { answer = r; out = (now (s .1 .1 .1 .0), now (s .1 .1 .1 .1 .0)) })
 zoom-determined = same (λ x. answerForC (zoomOf (x .0) (x .1) (x .2) (x .3))) (λ _ a r s p. p)

@@ -29,6 +29,8 @@ use Rattle.chart.specs.declared.Start.the-variants as Start
 use Rattle.corners.specs.Calls.{findCornersOf}
 use Rattle.pbm.specs.declared.Picture.{Picture}
 use Rattle.pbm.specs.declared.Picture.the-variants as Picture
+use Rattle.reduce.specs.Answers.{countedNumber, countedCount, distancesOf}
+use Rattle.reduce.specs.declared.Counted.{Counted}
 use Rattle.smooth.specs.declared.Subdivided.{Subdivided}
 use Rattle.smooth.specs.declared.Subdivided.the-variants as Subdivided
 use Rattle.spiral.specs.Answers.{freshNumber}
@@ -51,7 +53,7 @@ use Rattle.util.specs.declared.ratios.Intersection.the-variants.{Parallel, Coin
 use Rattle.walker.specs.Answers.{walkedNumber, walkedCount}
 use Rattle.walker.specs.Walk.{walked}
 use Rattle.walker.specs.declared.Walked.{Walked}
-use Rattle.sandline_c.specs.Handed.{answerForC, walkForC, pictureForC, roundForC, startForC, areaForC, signedAreaForC, midPointForC, lengthForC, crossingForC, freshOr, spiralForC, stepForC, advanceForC}
+use Rattle.sandline_c.specs.Handed.{answerForC, countedForC, walkForC, pictureForC, roundForC, startForC, areaForC, signedAreaForC, midPointForC, lengthForC, crossingForC, freshOr, spiralForC, stepForC, advanceForC}
 use Rattle.sandline_c.specs.Read.{pointFrom, pairFrom}
 
 -- ---- counted
@@ -64,6 +66,15 @@ told a n k b p q = rw (p, q)
 pub answer-told : {B : Type 0} (a : Answer) (n : ℕ) (k : List ℕ) (b : B) (o : Outcome Answer B) → record { answer = a; out = b } ≡ o → n ≡ numberOf a → k ≡ countOf a ∷ [] →
     record { answer = n; out = (b, k) } ≡ answerForC o
 answer-told a n k b o e p q = told a n k b p q ∙ ap answerForC e
+
+work : {B : Type 0} (a : Counted) (n : ℕ) (k d : List ℕ) (b : B) → n ≡ countedNumber a → k ≡ countedCount a ∷ [] → d ≡ distancesOf a ∷ [] →
+    _≡_ {A = Outcome ℕ (B × List ℕ × List ℕ)} (record { answer = n; out = (b, k, d) }) (countedForC (record { answer = a; out = b }))
+unfolding countedForC
+work a n k d b p q s = rw (p, q, s)
+
+pub work-told : {B : Type 0} (a : Counted) (n : ℕ) (k d : List ℕ) (b : B) (o : Outcome Counted B) → record { answer = a; out = b } ≡ o →
+    n ≡ countedNumber a → k ≡ countedCount a ∷ [] → d ≡ distancesOf a ∷ [] → record { answer = n; out = (b, k, d) } ≡ countedForC o
+work-told a n k d b o e p q s = work a n k d b p q s ∙ ap countedForC e
 
 walk-handed : (a : Walked) (n k : ℕ) (out : List ℤ) (o : Outcome Walked (List ℤ)) → record { answer = a; out = out } ≡ o → n ≡ walkedNumber a → k ≡ walkedCount a →
     record { answer = n; out = (out, k ∷ []) } ≡ walkForC o
@@ -110,7 +121,7 @@ pub pixel-told : (r : Bool) (c : Chart) (pixels : List ℕ) (x y : ℤ) → r �
     SFits w32 x → SFits w32 y → r ≡ pixelAt c pixels x y
 pixel-told r c pixels x y e fx fy = e ∙ rw (toZ-ofZ fx, toZ-ofZ fy)
 
-pub ruleset counted = (answer-told, picture-read, picture-refused, round-done, round-refused, walk-told, corners-told, pixel-told, needs)
+pub ruleset counted = (answer-told, work-told, picture-read, picture-refused, round-done, round-refused, walk-told, corners-told, pixel-told, needs)
 
 -- ---- values in a small array
 

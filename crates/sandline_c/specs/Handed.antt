@@ -15,6 +15,8 @@ use Rattle.chart.specs.declared.Start.{Start}
 use Rattle.pbm.specs.Answers.{pictureNumber}
 use Rattle.pbm.specs.declared.Picture.{Picture}
 use Rattle.pbm.specs.declared.Picture.the-variants as Picture
+use Rattle.reduce.specs.Answers.{countedNumber, countedCount, distancesOf}
+use Rattle.reduce.specs.declared.Counted.{Counted}
 use Rattle.smooth.specs.Answers.{subdividedNumber, subdividedCount}
 use Rattle.smooth.specs.declared.Subdivided.{Subdivided}
 use Rattle.smooth.specs.declared.Subdivided.the-variants as Subdivided
@@ -39,6 +41,10 @@ answerForC o = record { answer = numberOf (o .answer); out = (o .out, countOf (o
 
 unfoldable pub walkForC : Outcome Walked (List ℤ) → Outcome ℕ (List ℤ × List ℕ)
 walkForC o = record { answer = walkedNumber (o .answer); out = (o .out, walkedCount (o .answer) ∷ []) }
+
+-- the same with the distances that were computed behind the count: of a refusal 0 too
+unfoldable pub countedForC : {B : Type 0} → Outcome Counted B → Outcome ℕ (B × List ℕ × List ℕ)
+countedForC o = record { answer = countedNumber (o .answer); out = (o .out, countedCount (o .answer) ∷ [], distancesOf (o .answer) ∷ []) }
 
 -- ---- a chart that was read: its pixels, its sizes, and the bytes that its image took
 
