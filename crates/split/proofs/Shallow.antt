@@ -77,7 +77,7 @@ module _ (points : List ℤ) (splits : Float → Bool) where
       let z : size (tree points) ≡ 0 = tree-size points ∙ omega arith in
       omega (arith, rw z at (visits-bound splits (tree points)))
 
--- ---- the numbers "stop where all distances are zero": of a list that document 01 takes they look as often as Douglas-Peucker does at the squared
+-- ---- the numbers stop where all distances are zero: of a list that document 01 takes they look as often as Douglas-Peucker does at the squared
 -- tolerance 0
 
 pub numbers-look-as-often-as-at-zero : (points : List ℤ) → badPoints points ≡ false → visits nonzero (tree points) ≡ visits (lt zero64) (tree points)
