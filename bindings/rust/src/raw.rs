@@ -1,4 +1,5 @@
-//! The calls of include/sandline.h, in its order. It says what each does and what its caller owes.
+//! The calls of include/sandline.h, in its order. It says what each does and what its caller owes. (Of Douglas-Peucker
+//! and of the numbers the calls whose work is counted serve for both.)
 
 use crate::Spiral;
 
@@ -147,16 +148,6 @@ extern "C" {
         room: u64,
         count: *mut u64,
     ) -> u8;
-    pub fn sandline_simplify_douglas_peucker(
-        points: *const i32,
-        length: u64,
-        tolerance: f64,
-        out: *mut i32,
-        room: u64,
-        marks: *mut u8,
-        mark_room: u64,
-        count: *mut u64,
-    ) -> u8;
     pub fn sandline_simplify_douglas_peucker_counted(
         points: *const i32,
         length: u64,
@@ -178,13 +169,6 @@ extern "C" {
         scratch_room: u64,
         marks: *mut u8,
         mark_room: u64,
-        count: *mut u64,
-    ) -> u8;
-    pub fn sandline_numbers(
-        points: *const i32,
-        length: u64,
-        out: *mut f64,
-        room: u64,
         count: *mut u64,
     ) -> u8;
     pub fn sandline_numbers_counted(

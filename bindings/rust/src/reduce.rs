@@ -67,21 +67,7 @@ pub fn simplify_douglas_peucker(
     out: &mut [Point],
     marks: &mut [u8],
 ) -> Result<usize, Refusal> {
-    let (points, length) = lent(points.as_flattened());
-    let (out, room) = lent_mut(out.as_flattened_mut());
-    let (marks, mark_room) = lent_mut(marks);
-    counted(|count| unsafe {
-        raw::sandline_simplify_douglas_peucker(
-            points,
-            length,
-            sq_tolerance,
-            out,
-            room,
-            marks,
-            mark_room,
-            count,
-        )
-    })
+    simplify_douglas_peucker_counted(points, sq_tolerance, out, marks).map(|work| work.points)
 }
 
 /// [`simplify_douglas_peucker`], and how many distances were computed.
@@ -177,9 +163,7 @@ pub fn reduce(
 /// assert_eq!(out, [f64::INFINITY, 16.0, 16.0, f64::INFINITY]);
 /// ```
 pub fn numbers(points: &[Point], out: &mut [f64]) -> Result<usize, Refusal> {
-    let (points, length) = lent(points.as_flattened());
-    let (out, room) = lent_mut(out);
-    counted(|count| unsafe { raw::sandline_numbers(points, length, out, room, count) })
+    numbers_counted(points, out).map(|work| work.points)
 }
 
 /// [`numbers`], and how many distances were computed: as many as by Douglas-Peucker at the squared tolerance 0.

@@ -7,20 +7,20 @@ use mathlib.Core.Logic.{inr}
 use mathlib.Core.Path.{_≡_, refl, sym, ap, ap₂, subst, _∙_}
 use native.Mathlib.Omega.{arith}
 use lib.IntN.{ℤ}
-use lib.Ieee.{Float, nan, inf, lt, fits}
+use lib.Ieee.{Float, nan, inf, lt}
 use lib.ListN.{length, getD, set, length-set}
 use lib.Seq.{sets, length-sets, getD-set-same, getD-set-other}
-use Rattle.laws.proofs.Finite.{infinity-nonneg}
 use Rattle.laws.specs.Least.{least}
 use Rattle.laws.proofs.Least.{least-cases, least-first, least-at-most-first, least-at-most-second}
-use Rattle.laws.proofs.Order.{AtLeastZero, at-least-zero, lt-irreflexive, lt-asymmetric, ge-transitive, lt-antisymmetric}
+use Rattle.laws.proofs.Order.{lt-irreflexive, lt-asymmetric, ge-transitive, lt-antisymmetric}
 use Rattle.split.specs.declared.farthest.Far.{Far}
 use Rattle.split.specs.inside.Spans.{Distance, FoundInside}
 use Rattle.split.specs.Tree.{spanTree, cut, down}
 use Rattle.split.proofs.Apart.{first-part-first, last-part-first, getD-before, getD-behind}
 use Rattle.split.proofs.Cuts.{length-cut, length-down}
 use Rattle.split.proofs.Signs.{least-distance}
-use Rattle.split.proofs.Spans.{nothing-marked, both-marked, nothing-numbered, inside-distance, both-numbered}
+use Rattle.split.proofs.Small.{at-least}
+use Rattle.split.proofs.Spans.{infinite, nothing-marked, both-marked, nothing-numbered, inside-distance, both-numbered}
 use Rattle.split.proofs.Trees.{span-size}
 use Rattle.split.proofs.Turns.{worked, Parted}
 
@@ -68,9 +68,6 @@ pub record Ends (m : List Float) (f l : ℕ) : Type 0 where
   pub last-end : Distance (getD m l nan)
   pub in-buffer : l < length m
 
-at-least : {x : Float} → Distance x → AtLeastZero x
-at-least p = at-least-zero (p .nonneg)
-
 -- of a number that is at most another, the least of the two is it
 least-absorbs : (x v : Float) → Distance x → Distance v → lt x v ≡ false → least x v ≡ v
 least-absorbs x v p q h = least-cases x v (λ w. w ≡ v) (λ k. refl) (λ k. lt-antisymmetric (p .nonneg) (q .nonneg) (p .fitting) (q .fitting) h k)
@@ -83,10 +80,6 @@ pub ends-around : (x y : Float) → Distance x → Distance y → Distance (leas
 ends-around x y p q = least-distance x y p (record { unsigned = inr (q .nonneg); fitting = q .fitting })
 
 -- the ends of a list have infinity, and so has what is around it
-infinite : Distance (inf false)
-unfolding fits
-infinite = record { nonneg = infinity-nonneg; fitting = tt }
-
 module _ (m : List Float) (end : ℕ) (p : getD m 0 nan ≡ inf false) (q : getD m end nan ≡ inf false) where
   pub infinite-ends : end < length m → Ends m 0 end
   infinite-ends h = record { first-end = subst Distance (sym p) infinite; last-end = subst Distance (sym q) infinite; in-buffer = h }

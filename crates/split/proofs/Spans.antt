@@ -8,19 +8,19 @@ use mathlib.Core.Path.{_≡_, refl, sym, ap, subst, _∙_}
 use native.Mathlib.Numerals.{add-one}
 use native.Mathlib.Omega.{arith}
 use lib.IntN.{ℤ}
-use lib.Ieee.{Float, nan, ofBits, lt, eq, fits}
+use lib.Ieee.{Float, nan, inf, binary64, ofBits, div, lt, eq, fits}
 use lib.ListN.{length, set, replicate}
 use lib.Seq.{sets}
 use borrow.Author.Tests.{le-ltb, not-true}
 use Rattle.laws.proofs.Joined.{both-true}
 use Rattle.laws.proofs.Compare.{eq-is}
 use Rattle.laws.specs.inside.Finite.{NonNeg}
-use Rattle.laws.proofs.Finite.{nonneg-number}
+use Rattle.laws.proofs.Finite.{nonneg-number, infinity-nonneg}
 use Rattle.laws.proofs.Order.{at-least-zero, upper, lower, lt-is, lt-antisymmetric}
 use Rattle.laws.specs.Least.{least}
 use Rattle.laws.proofs.Least.{least-cases}
 use Rattle.split.specs.declared.farthest.Far.{Far}
-use Rattle.split.specs.Distance.{zero64}
+use Rattle.split.specs.Distance.{zero64, one64}
 use Rattle.split.specs.inside.Spans.{Distance, FoundInside}
 use Rattle.split.specs.Tree.{Tree, node, spanTree, size, cut, down}
 use Rattle.split.proofs.Cuts.{length-cut, length-down, cut-kept, cut-dropped, down-from-least}
@@ -62,6 +62,18 @@ module _ (points : List ℤ) (t : Float) (first last : ℕ) where
         ∙ ap (λ (l : List ℕ). sets m (first + 1) l) (sym (cut-kept t (far .index) (far .distance) _ _ l) ∙ ap (cut t) (sym (split-tree points first last far k (f .is))))
 
 -- ---- the numbers
+
+-- infinity, as the code makes it: 1.0 / 0.0
+abbrev pub infinity : Float
+infinity = div binary64 one64 zero64
+
+pub infinity-is : infinity ≡ inf false
+unfolding div ofBits
+infinity-is = refl
+
+pub infinite : Distance (inf false)
+unfolding fits
+infinite = record { nonneg = infinity-nonneg; fitting = tt }
 
 -- a square that equals 0.0 is it, as no square is -0; and the least of it and a number is it
 pub zero-distance : Distance zero64

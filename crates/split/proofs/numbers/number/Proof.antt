@@ -5,30 +5,21 @@ use mathlib.Core.List.{List}
 use mathlib.Core.Path.{_≡_, refl}
 use native.Mathlib.Omega.{arith}
 use lib.IntN.{ℤ}
-use lib.Ieee.{Float, inf, binary64, ofBits, div, fits}
+use lib.Ieee.{Float, inf}
 use lib.ListN.{length, set, length-set}
 use lib.Seq.{sets}
 use borrow.Author.Needs.{needs}
-use Rattle.laws.proofs.Finite.{infinity-nonneg}
-use Rattle.split.specs.Distance.{zero64, one64}
 use Rattle.split.specs.Buffers.{laidNumbers}
 use Rattle.split.specs.inside.Spans.{Distance}
 use Rattle.split.specs.Tree.{spanTree, down, numbersOf}
 use Rattle.split.proofs.Buffers.{laid-none, laid-no-room, all-laid}
 use Rattle.split.proofs.Cuts.{length-down}
+use Rattle.split.proofs.Spans.{infinity, infinity-is, infinite}
 use Rattle.split.proofs.numbers.number.Statement.{statement}
 use Rattle.split.proofs.numbers.number.Tie as tie
 
-abbrev infinity : Float
-infinity = div binary64 one64 zero64
-
-infinity-is : infinity ≡ inf false
-unfolding div ofBits
-infinity-is = refl
-
 infinity-distance : Distance infinity
-unfolding fits
-infinity-distance = rw infinity-is (record { nonneg = infinity-nonneg; fitting = tt })
+infinity-distance = rw infinity-is infinite
 
 module _ (points : List ℤ) (m : List Float) where
   no-point : length points / 2 ≡ 0 → m ≡ laidNumbers points m

@@ -5,27 +5,20 @@ use mathlib.Core.List.{List}
 use mathlib.Core.Path.{_≡_, refl, ap, ap₂, _∙_}
 use native.Mathlib.Omega.{arith}
 use lib.IntN.{ℤ}
-use lib.Ieee.{Float, nan, inf, binary64, ofBits, div}
+use lib.Ieee.{Float, nan, inf}
 use lib.ListN.{length, getD, set, length-set}
 use lib.Seq.{sets, getD-set-same, getD-set-other}
 use borrow.Author.Needs.{needs}
-use Rattle.split.specs.Distance.{zero64, one64}
 use Rattle.split.specs.Buffers.{laidNumbers}
 use Rattle.split.specs.Tree.{spanTree, tree, down, numbersOf}
 use Rattle.split.specs.Visits.{visits, nonzero, countedNumbers}
 use Rattle.split.proofs.Buffers.{laid-none, all-laid}
 use Rattle.split.proofs.Cuts.{length-down}
 use Rattle.split.proofs.Fitting.{counted, too-many, too-short, fits-none, fits-all}
+use Rattle.split.proofs.Spans.{infinity, infinity-is}
 use Rattle.split.proofs.Visited.{none-visited}
 use Rattle.split.proofs.waiting.number_waiting.Statement.{statement}
 use Rattle.split.proofs.waiting.number_waiting.Tie as tie
-
-abbrev infinity : Float
-infinity = div binary64 one64 zero64
-
-infinity-is : infinity ≡ inf false
-unfolding div ofBits
-infinity-is = refl
 
 -- both ends have infinity
 module _ (m : List Float) (n : ℕ) (z : n ≡ 0 → ⊥) (l : n ≤ length m) where
