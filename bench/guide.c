@@ -24,16 +24,10 @@ static void expect(bool right, const char *what, const char *name) {
     exit(1);
 }
 
-// ---- The board: where the program begins, and its timer.
+// ---- The board: its memory, and its timer.
 
-extern uint32_t __stack, end;
-void _start(void);
-
-// The first two words of the memory: the stack pointer, and what runs first.
-__attribute__((section(".vectors"), used)) static const struct {
-    uint32_t *stack;
-    void (*first)(void);
-} vectors = {&__stack, _start};
+// Where the program and what it keeps end; its stack is above that.
+extern uint32_t end;
 
 // A timer of the board's, which counts down at 25 MHz: one tick is 40 instructions.
 enum { INSTRUCTIONS_A_TICK = 40 };

@@ -93,3 +93,14 @@ need_cortex() { # PROCESSOR
     *) wrong "no processor '$1'; there are thumbv7em and thumbv6m" ;;
     esac
 }
+
+# Compiles a program of C for that Cortex-M, over its archive, to be run by tools/emulate: with newlib, which reads and
+# writes by semihosting, and a vector table at address 0.
+cross() { # OUT FILE.c ARCHIVE WORD..
+    local out=$1
+    shift
+    arm-none-eabi-gcc -std=c11 -Wall -Wextra -Wpedantic -Wconversion -Wshadow -Werror -O2 -I "$top/include" \
+        -mcpu="$cpu" -mthumb -mfloat-abi=soft --specs=rdimon.specs \
+        -Wl,--section-start=.vectors=0,--defsym=__stack=0x400000,--no-warn-execstack \
+        "$top/bindings/c/cortex.c" "$@" -o "$out"
+}

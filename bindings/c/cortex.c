@@ -1,5 +1,5 @@
-// What calls.c and cases.c need besides on an emulated Cortex-M: a vector table, by which the processor begins with the C
-// library's own start. The linker puts it at 0 (bindings/check).
+// What a program of C needs besides on an emulated Cortex-M (calls.c, cases.c, bench/guide.c): a vector table, by which
+// the processor begins with the C library's own start. The linker puts it at 0 (`cross` in tools/common.sh).
 //
 // A Cortex-M0+ has no words that are not aligned, but the emulated one would let them pass: so they are made a fault.
 #include <stdint.h>
