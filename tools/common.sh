@@ -94,6 +94,18 @@ need_cortex() { # PROCESSOR
     esac
 }
 
+# Ends unless arm-none-eabi-gcc has its C library.
+need_newlib() {
+    [ -f "$(arm-none-eabi-gcc -print-file-name=rdimon.specs)" ] || lacks "no newlib for arm-none-eabi-gcc here"
+}
+
+# Makes the archive for that Cortex-M, unless it is there and newer than every crate.
+need_archive() { # FOLDER PROCESSOR
+    local archive=$1/libsandline_c.a
+    [ -f "$archive" ] && [ -z "$(find "$top/crates" "$top/tools" -newer "$archive" -type f -print -quit)" ] ||
+        "$top/tools/archive" "$@"
+}
+
 # Compiles a program of C for that Cortex-M, over its archive, to be run by tools/emulate: with newlib, which reads and
 # writes by semihosting, and a vector table at address 0.
 cross() { # OUT FILE.c ARCHIVE WORD..

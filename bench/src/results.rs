@@ -32,7 +32,7 @@ impl Counts {
     fn of(runs: &Runs, code: &Code) -> Counts {
         let is_distance = |name: &str| name.ends_with("::get_sq_seg_dist");
         let is_root =
-            |name: &str| ["sqrt::root::sqrt", "std::f64::<impl f64>::sqrt"].contains(&name);
+            |name: &str| ["by_halves::sqrt", "sqrt::root::sqrt", "std::f64::<impl f64>::sqrt"].contains(&name);
         Counts { distances: runs.calls(code, is_distance), roots: runs.calls(code, is_root) }
     }
 }

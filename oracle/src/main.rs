@@ -1,6 +1,7 @@
 //! The test oracle: answers cases as the Rust does, makes cases, and compares. See README.md.
 
 mod all;
+mod by_halves;
 mod chart;
 mod compare;
 mod document;
@@ -61,8 +62,9 @@ macro_rules! subject {
     };
 }
 
-const SUBJECTS: [Subject; 11] = [
+const SUBJECTS: [Subject; 12] = [
     subject!(sqrt, [sqrt_bits, sqrt]),
+    subject!(by_halves, [by_halves]),
     subject!(point, [points, points_f64, tolerance, sq_tolerance]),
     subject!(chart, [pixel, area, first_start]),
     subject!(walker, [walk, spiral, spiral_step]),

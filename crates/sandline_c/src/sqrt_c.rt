@@ -1,4 +1,4 @@
-// Square roots.
+// Square roots, bit by bit: an interrupt with 512 bytes of stack may call them.
 ghost use mathlib.Core.Path.{_≡_};
 ghost use lib.Ieee.{binary64, ofBits, toBits};
 ghost use Rattle.sqrt.specs.Root.{rootOf};

@@ -20,7 +20,7 @@ fn heron(l1: f64, l2: f64, l3: f64) -> f64
     ensures { λ r. ⌜ r ≡ heron l1 l2 l3 ⌝ }
 {
     let p = (l1 + l2 + l3) / 2.0;
-    let area = sqrt::sqrt(p * (p - l1) * (p - l2) * (p - l3));
+    let area = by_halves::sqrt(p * (p - l1) * (p - l2) * (p - l3));
     area * area / l3
 }
 
@@ -29,7 +29,7 @@ pub(crate) fn side(p: PointI32, q: PointI32) -> f64
     requires { ⌜ Near p × Near q ⌝ }
     ensures { λ r. ⌜ r ≡ side p q ⌝ }
 {
-    sqrt::sqrt(sq(difference(p.x, q.x)) + sq(difference(p.y, q.y)))
+    by_halves::sqrt(sq(difference(p.x, q.x)) + sq(difference(p.y, q.y)))
 }
 
 // The square of a difference.

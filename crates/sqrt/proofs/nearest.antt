@@ -4,3 +4,4 @@ pub mod NearestRoot
 pub mod Patterns
 pub mod Neighbours
 pub mod RootFits
+pub mod Normal

@@ -1,5 +1,4 @@
 -- The whole root and how its digits are found: arithmetic of whole numbers.
 pub mod BitByBit
-pub mod ByHalves
 pub mod WholeRoot
 pub mod WholeUnits

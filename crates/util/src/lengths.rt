@@ -64,7 +64,7 @@ pub fn norm_i32(p: PointI32) -> Measure
 pub fn length(x: f64, y: f64) -> f64
     ensures { λ r. ⌜ r ≡ lengthOf x y ⌝ }
 {
-    sqrt::sqrt(x * x + y * y)
+    by_halves::sqrt(x * x + y * y)
 }
 
 // How long a vector of whole numbers is. Within the limits its square fits.
@@ -72,7 +72,7 @@ fn length_i32(x: i32, y: i32) -> f64
     requires { ⌜ (natAbs x ≤ 16383) × (natAbs y ≤ 16383) ⌝ }
     ensures { λ r. ⌜ r ≡ lengthOfI32 x y ⌝ }
 {
-    sqrt::sqrt(sum(square(x), square(y)) as f64)
+    by_halves::sqrt(sum(square(x), square(y)) as f64)
 }
 
 fn square(v: i32) -> i32

@@ -20,7 +20,7 @@ pub fn fixed(cases: &mut Cases) {
     cases.line(&format!("sqrt {}", "4".repeat(295)));
 }
 
-fn fixed_patterns() -> Vec<u64> {
+pub fn fixed_patterns() -> Vec<u64> {
     let mut patterns: Vec<u64> = PUBLISHED.iter().map(|value| value.to_bits()).collect();
     patterns.extend(SPECIAL.iter().flat_map(|&pattern| [pattern, pattern | SIGN]));
     patterns.extend([u64::MAX, INFINITY | 0xdead, ONE | SIGN, 0xc000 << 48]);

@@ -10,15 +10,22 @@ const NAN: u64 = 0x7ff8_0000_0000_0000;
 
 pub fn answer(words: &mut Words, answer: &mut Line) -> Option<()> {
     let call = words.word()?;
-    let root = root(words.pattern()?);
+    let pattern = words.pattern()?;
     words.end()?;
     match call {
-        b"sqrt_bits" => answer.pattern(root),
-        b"sqrt" if root == NAN => answer.word("nan"),
-        b"sqrt" => answer.pattern(root),
+        b"sqrt_bits" => answer.pattern(root(pattern)),
+        b"sqrt" => put_root(pattern, answer),
         _ => return None,
     };
     Some(())
+}
+
+/// The root as a double, of which a NaN has no pattern of its own.
+pub fn put_root<'a, 'b>(pattern: u64, answer: &'a mut Line<'b>) -> &'a mut Line<'b> {
+    match root(pattern) {
+        NAN => answer.word("nan"),
+        root => answer.pattern(root),
+    }
 }
 
 fn root(bits: u64) -> u64 {

@@ -5,7 +5,8 @@ use mathlib.Core.Path.{_≡_, sym, ap, _∙_}
 use native.Mathlib.Nat.{le-refl, le-trans, le-of-eq, le-of-suc-le-suc, lt-of-not-le, not-le-of-lt, lt-of-le-of-lt, mul-le-mul, mul-le-mul-right}
 use native.Mathlib.Omega.{arith}
 use lib.Dec.{T, ltb, ltb→lt}
-use lib.Ieee.{Float, nan, inf, fin, Format, prec, emax, low, size, odd, units, fits}
+use lib.Ieee.{Float, nan, inf, fin, Format, binary64, prec, emax, low, size, odd, units, fits, toBits, ofBits}
+use lib.Ieee.Bits.{ofBits-toBits}
 use lib.Ieee.Digits.{size-lt, size-reaches}
 use lib.Ieee.Fits.{two, reach, odd-fits, kept-lt, nan-fits, inf-fits}
 use lib.Pow.{pow-add, pow-mono, pow-lt, shr-lt}
@@ -63,3 +64,12 @@ module _ (f : Format) (n : ℕ) where
 
   pub answer-below : n < 2 ^ (low f + suc (emax f) + low f) → rounded n (kept f n) (dropped f n) * 2 ^ dropped f n < 2 ^ (low f + suc (emax f))
   answer-below h = lt-of-le-of-lt answer-le (lt-of-le-of-lt (pow-mono (root-short h)) (pow-lt (omega arith)))
+
+-- So a root may be worked out on bits: those that are written for a value are read as that value.
+pub through-bits : (x r : Float) (a b : ℕ) → T (fits binary64 x) → a ≡ toBits binary64 x → b ≡ toBits binary64 (rootOf binary64 (ofBits binary64 a)) →
+    r ≡ ofBits binary64 b → r ≡ rootOf binary64 x
+through-bits x r a b h p q e =
+    e
+    ∙ ap (ofBits binary64) (q ∙ ap (λ (v : ℕ). toBits binary64 (rootOf binary64 (ofBits binary64 v))) p)
+    ∙ ap (λ (v : Float). ofBits binary64 (toBits binary64 (rootOf binary64 v))) (ofBits-toBits binary64 x h)
+    ∙ ofBits-toBits binary64 (rootOf binary64 x) (root-fits binary64 x h)

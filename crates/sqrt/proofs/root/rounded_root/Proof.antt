@@ -1,63 +1,81 @@
--- `rounded_root` meets its contract: a quarter of the root is found, then half of it, then all, and the root is rounded by what is
--- left. Assumes nothing.
-use Prim.Native.Nat.{ℕ, _+_, _*_, _/_, _%_, _^_, _≤_, _<_}
+-- `rounded_root` meets its contract. The loop's invariant: the bits are tried down to `bit`. Assumes nothing.
+use Prim.Native.Nat.{ℕ, _+_, _-_, _*_, _/_, _^_, _≤_, _<_}
+use mathlib.Core.Path.{_≡_, refl}
 use native.Mathlib.Omega.{arith}
 use mir.Syntax.{w64}
 use mir.Val.{Fits}
 use borrow.Author.Needs.{needs}
 use Rattle.sqrt.specs.inside.Whole.{NearestWhole, Found}
-use Rattle.sqrt.proofs.whole.ByHalves.{found-below, found-from, rounds-up, rounds-down}
+use Rattle.sqrt.proofs.whole.BitByBit.{Tried, left-small, bit-positive, is-set, is-clear, all-tried, rounds-up, rounds-down}
 use Rattle.sqrt.proofs.root.rounded_root.Statement.{statement}
 use Rattle.sqrt.proofs.root.rounded_root.Tie as tie
 
-left-small : (n root left : ℕ) → Found n root left 1 → left ≤ 2 * root
-left-small n root left found = omega (arith, found .near)
+abbrev Inv-loop : tie.InvT-loop
+Inv-loop n twice₀ left₀ bit₀ twice left bit = (twice + 2 * bit ≤ 2 ^ 54) × Tried (n * 2 ^ 52) twice left bit
 
-module _ (n : ℕ) (long : 2 ^ 52 ≤ n) (short : n < 2 ^ 54) (s r : ℕ) (quarter : Found (n / 2 ^ 26) s r 1) where
-  quarter-short : s < 2 ^ 27
-  quarter-short = found-below (n / 2 ^ 26) s r quarter (2 ^ 27) (omega arith)
+abbrev μ-loop : tie.MeasureT-loop
+μ-loop n twice₀ left₀ bit₀ twice left bit = bit
 
-  quarter-long : 2 ^ 13 ≤ 2 * s
-  quarter-long = omega (arith, found-from (n / 2 ^ 26) s r quarter (2 ^ 13) (omega arith))
+-- before the first turn: the leading bit is set
+start : (n : ℕ) → 2 ^ 52 ≤ n → n < 2 ^ 54 → Tried (n * 2 ^ 52) (2 ^ 53) (n - 2 ^ 52) (2 ^ 52)
+start n long short =
+    record { place = 52; power = refl; root = 2 ^ 52; doubled = refl; found = record { square = omega arith; near = omega arith } }
 
-  module _ (s′ r′ : ℕ) (longer : Found ((s * s + r) * (2 ^ 13 * 2 ^ 13) + n / 2 ^ 13 % 2 ^ 13 * 2 ^ 13 + n % 2 ^ 13) s′ r′ 1) where
-    half : Found n s′ r′ 1
-    half = record { square = omega (arith, quarter .square, longer .square); near = longer .near }
+-- a turn
+module _ (n twice left bit : ℕ) (room : twice + 2 * bit ≤ 2 ^ 54) (so-far : Tried (n * 2 ^ 52) twice left bit) where
+  left-fits : Fits w64 (left * 2)
+  left-fits = omega (arith, left-small (n * 2 ^ 52) twice left bit so-far)
 
-    half-short : s′ < 2 ^ 27
-    half-short = found-below n s′ r′ half (2 ^ 27) (omega arith)
+  next-fits : Fits w64 (twice + bit / 2)
+  next-fits = omega arith
 
-    half-long : 2 ^ 26 ≤ 2 * s′
-    half-long = omega (arith, found-from n s′ r′ half (2 ^ 26) (omega arith))
+  twice-fits : Fits w64 (twice + bit / 2 + bit / 2)
+  twice-fits = omega arith
 
-    module _ (root left : ℕ) (longest : Found ((s′ * s′ + r′) * (2 ^ 26 * 2 ^ 26) + 0 * 2 ^ 26 + 0) root left 1) where
-      all : Found (n * 2 ^ 52) root left 1
-      all = record { square = omega (arith, half .square, longest .square); near = longest .near }
+  room-set : twice + bit / 2 + bit / 2 + 2 * (bit / 2) ≤ 2 ^ 54
+  room-set = omega arith
 
-      next-small : root + 1 ≤ 2 ^ 53
-      next-small = omega (arith, found-below (n * 2 ^ 52) root left all (2 ^ 53) (omega arith))
+  room-clear : twice + 2 * (bit / 2) ≤ 2 ^ 54
+  room-clear = omega arith
 
-      next-fits : Fits w64 (root + 1)
-      next-fits = omega (arith, next-small)
+  -- after the last one
+  module _ (done : bit ≤ 1) where
+    all : Found (n * 2 ^ 52) (twice / 2) left 1
+    all = all-tried (n * 2 ^ 52) twice left bit done so-far
 
-      root-small : root ≤ 2 ^ 53
-      root-small = omega (arith, next-small)
+    root-fits : Fits w64 (twice / 2 + 1)
+    root-fits = omega arith
 
-      up : root < left → NearestWhole (n * 2 ^ 52) (root + 1)
-      up h = rounds-up (n * 2 ^ 52) root left all h
+    up : twice / 2 < left → NearestWhole (n * 2 ^ 52) (twice / 2 + 1)
+    up h = rounds-up (n * 2 ^ 52) (twice / 2) left all h
 
-      down : left ≤ root → NearestWhole (n * 2 ^ 52) root
-      down h = rounds-down (n * 2 ^ 52) root left all (omega arith) h
+    up-small : twice / 2 + 1 ≤ 2 ^ 53
+    up-small = omega (arith, bit-positive (n * 2 ^ 52) twice left bit so-far)
 
-ruleset laws = (left-small, quarter-short, quarter-long, half-short, half-long, next-fits, next-small, root-small, up, down, needs)
+    down : 2 ^ 52 ≤ n → left ≤ twice / 2 → NearestWhole (n * 2 ^ 52) (twice / 2)
+    down p h = rounds-down (n * 2 ^ 52) (twice / 2) left all (omega arith) h
+
+    down-small : twice / 2 ≤ 2 ^ 53
+    down-small = omega arith
+
+ruleset laws = (start, left-fits, next-fits, twice-fits, room-set, room-clear, is-set, is-clear, root-fits, up, up-small, down, down-small, needs)
 
 pub rounded-root-spec : {M : Type 1} → statement M
 rounded-root-spec =
     tie.close
     (tie.spec
-    (λ c κs. search laws)  -- whole-root-requires
-    (λ c κs. search laws)  -- lengthen-requires
-    (λ c κs. search laws)  -- lengthen-requires-2
+    Inv-loop
+    μ-loop
+    (λ c. search laws)  -- mul-twice
+    (λ c. search laws)  -- sub-left
+    (λ c. search laws)  -- loop-holds
+    (λ c. search laws)  -- mul-left
+    (λ c. search laws)  -- add-next
+    (λ c. search laws)  -- add-twice
+    (λ c. search laws)  -- loop-less
+    (λ c. search laws)  -- loop-again
+    (λ c. search laws)  -- loop-less-2
+    (λ c. search laws)  -- loop-again-2
     (λ c. search laws)  -- add-result
     (λ c. search laws)  -- returns
     (λ c. search laws))  -- returns-2

@@ -1,17 +1,16 @@
 -- `sqrt_bits` meets its contract: the tests on the way tell what the pattern stands for, and so which root is asked. Assumes nothing.
-use Prim.Native.Nat.{ℕ, suc, _+_, _-_, _*_, _/_, _%_, _^_, _≤_, _<_}
+use Prim.Native.Nat.{ℕ, _+_, _*_, _/_, _%_, _^_, _≤_, _<_}
 use mathlib.Core.Bool.{Bool, true, false}
 use mathlib.Core.Path.{_≡_, refl, sym, ap, _∙_}
-use native.Mathlib.Nat.{mul-assoc, mul-pos}
 use native.Mathlib.Omega.{arith}
 use lib.Dec.{ltb}
 use lib.Ieee.{binary64, toBits, ofBits}
-use lib.Pow.{pow-add, pow-pos}
 use borrow.Author.Needs.{needs}
 use borrow.Author.Tests.{ltb-true, ltb-false}
 use Rattle.sqrt.specs.Root.{nearestRoot, rootOf, rootBits}
 use Rattle.sqrt.proofs.CorrectlyRounded.{root-of-no-number}
-use Rattle.sqrt.proofs.nearest.Patterns.{root-of-units, reads-subnormal, reads-normal}
+use Rattle.sqrt.proofs.nearest.Normal.{root-of-normal}
+use Rattle.sqrt.proofs.nearest.Patterns.{root-of-units, reads-subnormal}
 use Rattle.sqrt.proofs.root.sqrt_bits.Statement.{statement}
 use Rattle.sqrt.proofs.root.sqrt_bits.Tie as tie
 
@@ -33,7 +32,7 @@ module _ (b : ℕ) where
   nan-bits : b < 2 ^ 64 → (b % 2 ^ 63 ≡ 0 → ⊥) → 0x7ff0000000000000 < b → 0x7ff8000000000000 ≡ rootBits b
   nan-bits w z i = sym (root-of-no-number b w i (λ e. z (omega arith)))
 
-  -- a positive number, from its units: b itself, or its digits with the leading one, as often doubled as its field says
+  -- a positive number without the leading digit is so many units as its pattern says
   subnormal : (r : ℕ) → r ≡ toBits binary64 (nearestRoot binary64 (b % 2 ^ 52 * 2 ^ 1074)) → (b % 2 ^ 63 ≡ 0 → ⊥) → b / 2 ^ 52 ≡ 0 → r ≡ rootBits b
   subnormal r h z f =
       let e : b % 2 ^ 52 ≡ b = omega arith in
@@ -43,18 +42,7 @@ module _ (b : ℕ) where
 
   normal : (r : ℕ) → r ≡ toBits binary64 (nearestRoot binary64 ((2 ^ 52 + b % 2 ^ 52) * 2 ^ (b / 2 ^ 52 + 1021 + 52))) →
       b ≤ 0x7ff0000000000000 → (b ≡ 0x7ff0000000000000 → ⊥) → (b / 2 ^ 52 ≡ 0 → ⊥) → r ≡ rootBits b
-  normal r h i j f =
-      let x = b / 2 ^ 52 - 1 in
-      let m = 2 ^ 52 + b % 2 ^ 52 in
-      let field : b / 2 ^ 52 ≡ suc x = omega arith in
-      let sum : b / 2 ^ 52 + 1021 + 52 ≡ x + 1074 = omega arith in
-      let units : m * 2 ^ (b / 2 ^ 52 + 1021 + 52) ≡ m * 2 ^ x * 2 ^ 1074 =
-      ap (λ (k : ℕ). m * 2 ^ k) sum ∙ ap (λ (p : ℕ). m * p) (pow-add 2 x 1074) ∙ sym (mul-assoc m (2 ^ x) (2 ^ 1074)) in
-      h ∙ ap (λ (n : ℕ). toBits binary64 (nearestRoot binary64 n)) units
-      ∙ ap (toBits binary64)
-      (sym
-      (root-of-units binary64 (m * 2 ^ x) (mul-pos (omega arith) (pow-pos x)) (ofBits binary64 b)
-      (reads-normal binary64 b x (omega arith) field (omega arith))))
+  normal r h i j f = h ∙ root-of-normal b (omega arith) (omega arith)
 
 ruleset laws = (zero-itself, infinity-itself, nan-bits, subnormal, normal, needs)
 

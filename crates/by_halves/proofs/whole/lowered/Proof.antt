@@ -1,8 +1,8 @@
 -- `lowered` meets its contract. Assumes nothing.
 use borrow.Author.Needs.{needs}
-use Rattle.sqrt.proofs.whole.ByHalves.{from-left, from-root}
-use Rattle.sqrt.proofs.root.lowered.Statement.{statement}
-use Rattle.sqrt.proofs.root.lowered.Tie as tie
+use Rattle.by_halves.proofs.ByHalves.{from-left, from-root}
+use Rattle.by_halves.proofs.whole.lowered.Statement.{statement}
+use Rattle.by_halves.proofs.whole.lowered.Tie as tie
 
 ruleset laws = (from-left, from-root, needs)
 

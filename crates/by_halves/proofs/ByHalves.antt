@@ -5,8 +5,8 @@ use Prim.Native.Nat.{ℕ, zero, suc, _+_, _-_, _*_, _/_, _%_, _≤_, _<_}
 use mathlib.Core.Path.{_≡_, ap}
 use native.Mathlib.Nat.{le-of-suc-le-suc, lt-of-mul-lt-mul-left, mul-le-mul, mul-le-mul-right, mul-pos, mod-lt, div-add-mod}
 use native.Mathlib.Omega.{arith}
-use Rattle.sqrt.specs.inside.Whole.{Found, NearestWhole}
+use Rattle.sqrt.specs.inside.Whole.{Found}
 use Rattle.sqrt.proofs.whole.WholeRoot.{squares-lt}
 
 module _ (s r b high low : ℕ) (small : r ≤ 2 * s) (long : b ≤ 2 * s) (first : high < b) (second : low < b) where
   abbrev digit : ℕ
@@ -66,14 +66,3 @@ module _ (n root left : ℕ) (found : Found n root left 1) where
 
   pub found-from : (b : ℕ) → b * b ≤ n → b ≤ root
   found-from b h = le-of-suc-le-suc (squares-lt b (suc root) (omega (arith, found .square, found .near)))
-
-  -- what is left says which whole number is nearest
-  pub rounds-up : root < left → NearestWhole n (root + 1)
-  rounds-up h = omega (arith, found .square, found .near)
-
-  pub rounds-down : 0 < n → left ≤ root → NearestWhole n root
-  rounds-down p h = by-root root (found .square) h
-    where
-      by-root : (root : ℕ) → root * root + left ≡ n → left ≤ root → NearestWhole n root
-      by-root zero e h = omega arith
-      by-root (suc root) e h = omega arith

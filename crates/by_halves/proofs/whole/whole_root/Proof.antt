@@ -7,10 +7,10 @@ use native.Mathlib.Omega.{arith}
 use mir.Syntax.{w64}
 use mir.Val.{Fits}
 use borrow.Author.Needs.{needs}
 use Rattle.sqrt.specs.inside.Whole.{Found}
 use Rattle.sqrt.proofs.whole.BitByBit.{bit-set, bit-clear}
-use Rattle.sqrt.proofs.root.whole_root.Statement.{statement}
-use Rattle.sqrt.proofs.root.whole_root.Tie as tie
+use Rattle.by_halves.proofs.whole.whole_root.Statement.{statement}
+use Rattle.by_halves.proofs.whole.whole_root.Tie as tie
 
 abbrev Inv-loop : tie.InvT-loop
 Inv-loop n root₀ left₀ k₀ root left k = (k ≤ 13) × (root + 2 ^ k ≤ 2 ^ 14) × Found n root left (2 ^ k)

@@ -5,9 +5,9 @@ use native.Mathlib.Omega.{arith}
 use mir.Syntax.{w64}
 use mir.Val.{Fits}
 use borrow.Author.Needs.{needs}
-use Rattle.sqrt.proofs.whole.ByHalves.{rest-small, digit-le, left-small, square-small, longer}
-use Rattle.sqrt.proofs.root.lengthen.Statement.{statement}
-use Rattle.sqrt.proofs.root.lengthen.Tie as tie
+use Rattle.by_halves.proofs.ByHalves.{rest-small, digit-le, left-small, square-small, longer}
+use Rattle.by_halves.proofs.whole.lengthen.Statement.{statement}
+use Rattle.by_halves.proofs.whole.lengthen.Tie as tie
 
 module _ (s r b high low : ℕ) (small : r ≤ 2 * s) (short : s < 2 ^ 27) (long : b ≤ 2 * s) (base : b ≤ 2 ^ 26) (first : high < b) (second : low < b) where
   abbrev digit : ℕ
