@@ -4,14 +4,15 @@ use crate::forms::case_of;
 use crate::putting::put_double;
 use crate::putting::put_pattern;
 use crate::putting::put_word;
+use crate::reading::double_at;
 use crate::reading::pattern_at;
 
 // Puts the answer to a case of the square root at a place of `out`, and answers the place behind it.
 pub fn answer(line: &[u8], out: &mut [u8], at: usize) -> usize {
     match case_of(line, b"sqrt_bits d sqrt d by_halves d") {
         0 => put_pattern(sqrt::sqrt_bits(pattern_at(line, 1)), b' ', out, at),
-        1 => put_root(sqrt::sqrt(bits::from_bits(pattern_at(line, 1))), out, at),
-        2 => put_root(by_halves::sqrt(bits::from_bits(pattern_at(line, 1))), out, at),
+        1 => put_root(sqrt::sqrt(double_at(line, 1)), out, at),
+        2 => put_root(by_halves::sqrt(double_at(line, 1)), out, at),
         _ => at,
     }
 }
