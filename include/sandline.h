@@ -371,8 +371,12 @@ uint8_t sandline_zoom(const int32_t *points, uint64_t length, const double *numb
 
 // The square root as IEEE 754 has it: the double nearest to the exact root, ties to even. -0 gives -0, and NaN
 // or below zero gives NaN. The second takes and gives a double's bits, its NaN always 0x7ff8000000000000.
-// Stack of sandline_sqrt: 40 bytes.
-// Stack of sandline_sqrt_bits: 8 bytes.
+//
+// Both may be called from an interrupt that has 512 bytes of stack. They are worked out bit by bit, without a division
+// and without a table; what they take on a Cortex-M, libgcc's routines included, stands here too (guide/interrupt runs
+// them so). Of the 512 bytes 456 are left on a Cortex-M4, and 432 on a Cortex-M0+.
+// Stack of sandline_sqrt: 40 bytes; on a Cortex-M4 56, on a Cortex-M0+ 80.
+// Stack of sandline_sqrt_bits: 8 bytes; on a Cortex-M4 40, on a Cortex-M0+ 72.
 double sandline_sqrt(double x);
 uint64_t sandline_sqrt_bits(uint64_t bits);
 

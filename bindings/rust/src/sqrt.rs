@@ -2,7 +2,8 @@
 
 use crate::raw;
 
-/// The square root as IEEE 754 has it: the double nearest to the exact root, ties to even.
+/// The square root as IEEE 754 has it: the double nearest to the exact root, ties to even. It takes little stack, for
+/// an interrupt that has 512 bytes of it; `include/sandline.h` has the figures.
 ///
 /// ```
 /// assert_eq!(sandline::sqrt(2.0).to_bits(), 0x3ff6a09e667f3bcd);

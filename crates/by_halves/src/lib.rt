@@ -18,11 +18,14 @@ pub fn sqrt(x: f64) -> f64
     bits::from_bits(root_bits(bits::to_bits(x)))
 }
 
-// The bits of the square root of the double whose bits are `b`. All but normal doubles above zero are
-// left to `sqrt`.
+// The bits of the square root of the double whose bits are `b`. A zero is its own root; all else but
+// normal doubles above zero is left to `sqrt`.
 fn root_bits(b: u64) -> u64
     ensures { λ r. ⌜ r ≡ rootBits b ⌝ }
 {
+    if b % bits::SIGN == 0 {
+        return b;
+    }
     if (b < LEADING) | (bits::INFINITY <= b) {
         return sqrt::sqrt_bits(b);
     }

@@ -126,6 +126,15 @@ pub root-of-minus-zero : rootBits 0x8000000000000000 ≡ 0x8000000000000000
 unfolding toBits rootOf ofBits
 root-of-minus-zero = refl
 
+-- both zeros
+pub zero-itself : (p : ℕ) → p < 2 ^ 64 → p % 2 ^ 63 ≡ 0 → p ≡ rootBits p
+unfolding toBits rootOf ofBits
+zero-itself p short none = by-sign (ltb p (2 ^ 63)) (ltb-true _ _) (ltb-false _ _)
+  where
+    by-sign : (s : Bool) → (s ≡ true → p < 2 ^ 63) → (s ≡ false → 2 ^ 63 ≤ p) → p ≡ rootBits p
+    by-sign true less more = let l : p < 2 ^ 63 = less refl in let e : p ≡ 0 = omega arith in rw e
+    by-sign false less more = let l : 2 ^ 63 ≤ p = more refl in let e : p ≡ 2 ^ 63 = omega arith in rw e
+
 pub root-of-infinity : rootBits 0x7ff0000000000000 ≡ 0x7ff0000000000000
 unfolding toBits rootOf ofBits
 root-of-infinity = refl

@@ -9,6 +9,7 @@ use borrow.Author.Tests.{ltb-false, leb-false}
 use Rattle.laws.proofs.Joined.{both-false}
 use Rattle.sqrt.specs.Root.{rootBits}
 use Rattle.sqrt.specs.inside.Whole.{NearestWhole}
+use Rattle.sqrt.proofs.CorrectlyRounded.{zero-itself}
 use Rattle.sqrt.proofs.nearest.Normal.{even, even-long, even-short, root-bits, root-of-normal}
 use Rattle.by_halves.proofs.root_bits.Statement.{statement}
 use Rattle.by_halves.proofs.root_bits.Tie as tie
@@ -36,18 +37,19 @@ module _ (b : ℕ) (tests : (ltb b (2 ^ 52) || leb 0x7ff0000000000000 b) ≡ fal
   root : (r : ℕ) → NearestWhole (even m e (omega arith) (omega arith) * 2 ^ 52) r → r ≤ 2 ^ 53 → e / 2 * 2 ^ 52 + r ≡ rootBits b
   root r near most = root-bits m e (omega arith) (omega arith) r near most (omega (arith, finite)) ∙ root-of-normal b normal finite
 
-ruleset laws = (long, short, root, needs)
+ruleset laws = (zero-itself, long, short, root, needs)
 
 pub root-bits-spec : {M : Type 1} → statement M
 root-bits-spec =
     tie.close
     (tie.spec
+    (λ c. search laws)  -- returns
     (λ c κs. search needs)  -- sqrt-bits-requires
-    (λ c. search needs)  -- returns
+    (λ c. search needs)  -- returns-2
     (λ c. search needs)  -- add-e
     (λ c. search needs)  -- mul-result
     (λ c. search needs)  -- add-rounded-root
     (λ c. search needs)  -- shl-rounded-root
     (λ c κs. search laws)  -- rounded-root-requires
     (λ c. search needs)  -- add-result
-    (λ c. search laws))  -- returns-2
+    (λ c. search laws))  -- returns-3

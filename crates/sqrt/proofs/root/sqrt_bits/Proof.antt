@@ -1,29 +1,17 @@
 -- `sqrt_bits` meets its contract: the tests on the way tell what the pattern stands for, and so which root is asked. Assumes nothing.
 use Prim.Native.Nat.{ℕ, _+_, _*_, _/_, _%_, _^_, _≤_, _<_}
-use mathlib.Core.Bool.{Bool, true, false}
-use mathlib.Core.Path.{_≡_, refl, sym, ap, _∙_}
+use mathlib.Core.Path.{_≡_, sym, ap, _∙_}
 use native.Mathlib.Omega.{arith}
-use lib.Dec.{ltb}
 use lib.Ieee.{binary64, toBits, ofBits}
 use borrow.Author.Needs.{needs}
-use borrow.Author.Tests.{ltb-true, ltb-false}
 use Rattle.sqrt.specs.Root.{nearestRoot, rootOf, rootBits}
-use Rattle.sqrt.proofs.CorrectlyRounded.{root-of-no-number}
+use Rattle.sqrt.proofs.CorrectlyRounded.{zero-itself, root-of-no-number}
 use Rattle.sqrt.proofs.nearest.Normal.{root-of-normal}
 use Rattle.sqrt.proofs.nearest.Patterns.{root-of-units, reads-subnormal}
 use Rattle.sqrt.proofs.root.sqrt_bits.Statement.{statement}
 use Rattle.sqrt.proofs.root.sqrt_bits.Tie as tie
 
 module _ (b : ℕ) where
-  -- b is 0 or 2 ^ 63
-  zero-itself : b < 2 ^ 64 → b % 2 ^ 63 ≡ 0 → b ≡ rootBits b
-  unfolding toBits rootOf ofBits
-  zero-itself w z = by-sign (ltb b (2 ^ 63)) (ltb-true _ _) (ltb-false _ _)
-    where
-      by-sign : (s : Bool) → (s ≡ true → b < 2 ^ 63) → (s ≡ false → 2 ^ 63 ≤ b) → b ≡ rootBits b
-      by-sign true less more = let l : b < 2 ^ 63 = less refl in let e : b ≡ 0 = omega arith in rw e
-      by-sign false less more = let l : 2 ^ 63 ≤ b = more refl in let e : b ≡ 2 ^ 63 = omega arith in rw e
-
   infinity-itself : b ≡ 0x7ff0000000000000 → 0x7ff0000000000000 ≡ rootBits b
   unfolding toBits rootOf ofBits
   infinity-itself e = rw e
