@@ -6,7 +6,9 @@ ghost use mathlib.Core.Path.{_≡_};
 ghost use Prim.Native.Nat.{_^_, _<_, _≤_};
 ghost use lib.Ieee.{binary64};
 ghost use Rattle.sqrt.specs.Root.{rootOf, rootBits};
+
 mod whole;
+
 use crate::whole::LEADING;
 use crate::whole::rounded_root;
 
