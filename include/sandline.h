@@ -83,10 +83,10 @@
 #include <stdint.h>
 
 // The version of this header, and of the archive that is made beside it (docs/CHANGES.md).
-#define SANDLINE_VERSION "2.1.0"
+#define SANDLINE_VERSION "2.1.1"
 #define SANDLINE_VERSION_MAJOR 2
 #define SANDLINE_VERSION_MINOR 1
-#define SANDLINE_VERSION_PATCH 0
+#define SANDLINE_VERSION_PATCH 1
 
 #ifdef __cplusplus
 extern "C" {
@@ -228,8 +228,8 @@ uint8_t sandline_signed_area(const int32_t points[6], int32_t *area);
 uint8_t sandline_find_mid_point(const double points[4], double middle[2]);
 
 // The length of a vector, with fractions and without.
-// Stack of sandline_norm: 40 bytes.
-// Stack of sandline_norm_i32: 40 bytes.
+// Stack of sandline_norm: 56 bytes.
+// Stack of sandline_norm_i32: 56 bytes.
 uint8_t sandline_norm(double x, double y, double *length);
 uint8_t sandline_norm_i32(int32_t x, int32_t y, double *length);
 
@@ -267,11 +267,11 @@ uint8_t sandline_remove_staircase(const int32_t *points, uint64_t length, bool c
 
 // Without the points that cost less than 1 to leave out: the square of the area of the triangle that goes, over
 // the side that takes its place. Of two points the first alone is left; a single one is answered twice.
-// Stack of sandline_limit_penalties: 232 bytes.
+// Stack of sandline_limit_penalties: 248 bytes.
 uint8_t sandline_limit_penalties(const int32_t *points, uint64_t length, int32_t *out, uint64_t room, uint64_t *count);
 
 // Both, one after the other: what to do with a walked outline.
-// Stack of sandline_simplify: 33,080 bytes, most of them for the list between the two.
+// Stack of sandline_simplify: 33,096 bytes, most of them for the list between the two.
 uint8_t sandline_simplify(const int32_t *points, uint64_t length, bool clockwise, int32_t *out, uint64_t room,
                           uint64_t *count);
 
@@ -375,7 +375,7 @@ uint8_t sandline_zoom(const int32_t *points, uint64_t length, const double *numb
 // Both may be called from an interrupt that has 512 bytes of stack. They are worked out bit by bit, without a division
 // and without a table; what they take on a Cortex-M, libgcc's routines included, stands here too (guide/interrupt runs
 // them so). Of the 512 bytes 456 are left on a Cortex-M4, and 432 on a Cortex-M0+.
-// Stack of sandline_sqrt: 40 bytes; on a Cortex-M4 56, on a Cortex-M0+ 80.
+// Stack of sandline_sqrt: 24 bytes; on a Cortex-M4 56, on a Cortex-M0+ 80.
 // Stack of sandline_sqrt_bits: 8 bytes; on a Cortex-M4 40, on a Cortex-M0+ 72.
 double sandline_sqrt(double x);
 uint64_t sandline_sqrt_bits(uint64_t bits);

@@ -31,8 +31,9 @@ pub struct Counts {
 impl Counts {
     fn of(runs: &Runs, code: &Code) -> Counts {
         let is_distance = |name: &str| name.ends_with("::get_sq_seg_dist");
-        let is_root =
-            |name: &str| ["by_halves::sqrt", "sqrt::root::sqrt", "std::f64::<impl f64>::sqrt"].contains(&name);
+        let is_root = |name: &str| {
+            ["by_halves::sqrt", "sandline_sqrt", "std::f64::<impl f64>::sqrt"].contains(&name)
+        };
         Counts { distances: runs.calls(code, is_distance), roots: runs.calls(code, is_root) }
     }
 }
