@@ -5,7 +5,7 @@ use native.Mathlib.Omega.{arith}
 use borrow.Author.Needs.{needs}
 use Rattle.sqrt.specs.Root.{rootBits}
 use Rattle.sqrt.specs.inside.Whole.{NearestWhole}
-use Rattle.sqrt.proofs.nearest.Normal.{even, even-long, even-short, root-bits, root-of-normal}
+use Rattle.sqrt.proofs.nearest.Normal.{shifted-long, shifted-short, root-bits, root-of-normal}
 use Rattle.by_halves.proofs.normal_root.Statement.{statement}
 use Rattle.by_halves.proofs.normal_root.Tie as tie
 
@@ -16,13 +16,13 @@ module _ (b : ℕ) (normal : 2 ^ 52 ≤ b) (finite : b < 0x7ff0000000000000) whe
   abbrev e : ℕ
   e = b / 2 ^ 52 + 1021
 
-  long : 2 ^ 52 ≤ even m e (omega arith) (omega arith)
-  long = even-long m e (omega arith) (omega arith)
+  long : 2 ^ 52 ≤ m * 2 ^ (e % 2) % 2 ^ 64
+  long = shifted-long m e 2 (omega arith) (omega arith) (omega arith) (omega arith)
 
-  short : even m e (omega arith) (omega arith) < 2 ^ 54
-  short = even-short m e (omega arith) (omega arith)
+  short : m * 2 ^ (e % 2) % 2 ^ 64 < 2 ^ 54
+  short = shifted-short m e 2 (omega arith) (omega arith) (omega arith) (omega arith)
 
-  root : (r : ℕ) → NearestWhole (even m e (omega arith) (omega arith) * 2 ^ 52) r → r ≤ 2 ^ 53 → e / 2 * 2 ^ 52 + r ≡ rootBits b
+  root : (r : ℕ) → NearestWhole (m * 2 ^ (e % 2) % 2 ^ 64 * 2 ^ 52) r → r ≤ 2 ^ 53 → e / 2 * 2 ^ 52 + r ≡ rootBits b
   root r near most = root-bits m e (omega arith) (omega arith) r near most (omega arith) ∙ root-of-normal b normal finite
 
 ruleset laws = (long, short, root, needs)

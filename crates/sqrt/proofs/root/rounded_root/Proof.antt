@@ -1,6 +1,7 @@
 -- `rounded_root` meets its contract. The loop's invariant: the bits are tried down to `bit`. Assumes nothing.
 use Prim.Native.Nat.{ℕ, _+_, _-_, _*_, _/_, _^_, _≤_, _<_}
 use mathlib.Core.Path.{_≡_, refl}
+use native.Mathlib.Nat.{mul-le-mul}
 use native.Mathlib.Omega.{arith}
 use mir.Syntax.{w64}
 use mir.Val.{Fits}
@@ -23,8 +24,9 @@ start n long short =
 
 -- a turn
 module _ (n twice left bit : ℕ) (room : twice + 2 * bit ≤ 2 ^ 54) (so-far : Tried (n * 2 ^ 52) twice left bit) where
-  left-fits : Fits w64 (left * 2)
-  left-fits = omega (arith, left-small (n * 2 ^ 52) twice left bit so-far)
+  left-fits : (k : ℕ) → k ≤ 2 → Fits w64 (left * k)
+  left-fits k few =
+      let small : left ≤ 2 ^ 54 = omega (arith, left-small (n * 2 ^ 52) twice left bit so-far) in omega (arith, mul-le-mul small few)
 
   next-fits : Fits w64 (twice + bit / 2)
   next-fits = omega arith
@@ -38,13 +40,20 @@ module _ (n twice left bit : ℕ) (room : twice + 2 * bit ≤ 2 ^ 54) (so-far : 
   room-clear : twice + 2 * (bit / 2) ≤ 2 ^ 54
   room-clear = omega arith
 
+  module _ (k : ℕ) (some : 1 ≤ k) (turn : k < bit) where
+    set : twice + bit / 2 ≤ left * 2 → Tried (n * 2 ^ 52) (twice + bit / 2 + bit / 2) (left * 2 - (twice + bit / 2)) (bit / 2)
+    set = is-set (n * 2 ^ 52) twice left bit so-far (omega arith)
+
+    clear : left * 2 < twice + bit / 2 → Tried (n * 2 ^ 52) twice (left * 2) (bit / 2)
+    clear = is-clear (n * 2 ^ 52) twice left bit so-far (omega arith)
+
   -- after the last one
+  root-fits : Fits w64 (twice / 2 + 1)
+  root-fits = omega arith
+
   module _ (done : bit ≤ 1) where
     all : Found (n * 2 ^ 52) (twice / 2) left 1
     all = all-tried (n * 2 ^ 52) twice left bit done so-far
-
-    root-fits : Fits w64 (twice / 2 + 1)
-    root-fits = omega arith
 
     up : twice / 2 < left → NearestWhole (n * 2 ^ 52) (twice / 2 + 1)
     up h = rounds-up (n * 2 ^ 52) (twice / 2) left all h
@@ -58,7 +67,7 @@ module _ (n twice left bit : ℕ) (room : twice + 2 * bit ≤ 2 ^ 54) (so-far : 
     down-small : twice / 2 ≤ 2 ^ 53
     down-small = omega arith
 
-ruleset laws = (start, left-fits, next-fits, twice-fits, room-set, room-clear, is-set, is-clear, root-fits, up, up-small, down, down-small, needs)
+ruleset laws = (start, left-fits, next-fits, twice-fits, room-set, room-clear, set, clear, root-fits, up, up-small, down, down-small, needs)
 
 pub rounded-root-spec : {M : Type 1} → statement M
 rounded-root-spec =
