@@ -1,4 +1,4 @@
--- Document 01: "First start (added): the top left corner of the first set pixel, row by row; a blank chart gives NoWay."
+-- Document 01: where a walk may begin. "First start (added): the top left corner of the first set pixel, row by row; a blank chart gives NoWay."
 use Prim.Native.Nat.{ℕ, zero, suc}
 use mathlib.Core.Bool.{true, false}
 use mathlib.Core.List.{List}

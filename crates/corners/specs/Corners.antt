@@ -1,5 +1,5 @@
--- Document 01, "Corners": "With v1 into and v2 out of a point, it is a corner when c·|cross| - s·dot ≥ 0. Closed lists drop the last point unseen
--- and wrap; open lists flag both ends." Whole numbers only.
+-- Document 01, "Corners": which points are corners, by whole numbers alone. "With v1 into and v2 out of a point, it is a corner when
+-- c·|cross| - s·dot ≥ 0. Closed lists drop the last point unseen and wrap; open lists flag both ends."
 use Prim.Native.Nat.{ℕ, zero, suc, _-_}
 use mathlib.Core.Bool.{Bool, not, _&&_, _||_}
 use mathlib.Core.List.{List, [], _∷_}

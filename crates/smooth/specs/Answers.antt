@@ -1,4 +1,5 @@
--- "For an answer that is an enum, a definition gives this paper's number and values for each of its cases."
+-- Document 01's number and values of each answer: "For an answer that is an enum, a definition gives this paper's number and values for
+-- each of its cases."
 use Prim.Native.Nat.{ℕ}
 use mathlib.Core.Bool.{Bool, false}
 use Rattle.point.specs.Refusals.{refusalNumber}
