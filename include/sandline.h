@@ -1,10 +1,10 @@
 // Sandline for C and C++: outlines of bitmaps, simplified so that zooms nest.
 //
-// tools/archive FOLDER makes FOLDER/libsandline_c.a for the processor at hand, and tools/archive FOLDER thumbv7em (or
-// thumbv6m) for a Cortex-M4 (or a Cortex-M0+). Of the C library it calls memset alone; on a Cortex-M also libgcc's
-// routines for doubles and 64 bits (tools/archive says which, and what else a firmware owes). It allocates nothing,
-// keeps nothing between calls, reads and writes no file, and sets no errno. So calls may run at the same time on
-// several threads, as long as what one of them writes is lent to no other.
+// tools/archive FOLDER makes FOLDER/libsandline_c.a for the processor at hand, and tools/archive FOLDER thumbv7em,
+// thumbv6m or wasm32 for a Cortex-M4, a Cortex-M0+ or WebAssembly. Of the C library it calls memset alone, and nothing
+// in WebAssembly; on a Cortex-M also libgcc's routines for doubles and 64 bits (tools/archive says which, and what else
+// a program owes on each). It allocates nothing, keeps nothing between calls, reads and writes no file, and sets no
+// errno. So calls may run at the same time on several threads, as long as what one of them writes is lent to no other.
 //
 // Every call comes back, for every input that keeps to "What you owe" below. What is right is said by
 // docs/01-scope.md ("document 01"), and it is proved that the code under these calls does it.

@@ -99,7 +99,7 @@ need_newlib() {
     [ -f "$(arm-none-eabi-gcc -print-file-name=rdimon.specs)" ] || lacks "no newlib for arm-none-eabi-gcc here"
 }
 
-# Makes the archive for that Cortex-M, unless it is there and newer than every crate.
+# Makes the archive for that processor, unless it is there and newer than every crate.
 need_archive() { # FOLDER PROCESSOR
     local archive=$1/libsandline_c.a
     [ -f "$archive" ] && [ -z "$(find "$top/crates" "$top/tools" -newer "$archive" -type f -print -quit)" ] ||
