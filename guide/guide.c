@@ -4,10 +4,11 @@
 #include "board.h"
 #include "sandline.h"
 #include "screen.h"
+#include "zooms.h"
 
 // The survey, a PBM file, as the planner has handed it over: read-only memory.
-extern const uint8_t survey[], survey_end[];
-__asm__(".section .survey, \"a\"\n.global survey, survey_end\nsurvey: .incbin \"survey.pbm\"\nsurvey_end:\n.text");
+extern const uint8_t file[], file_end[];
+__asm__(".section .survey, \"a\"\n.global file, file_end\nfile: .incbin \"survey.pbm\"\nfile_end:\n.text");
 
 // The cell where the party stands: guide/run may say which, and else it is the middle of the chart.
 #ifndef PARTY_X
@@ -20,7 +21,7 @@ __asm__(".section .survey, \"a\"\n.global survey, survey_end\nsurvey: .incbin \"
 #define ZIGZAG 0
 #endif
 
-enum { MOST_POINTS = 4096, MOST_VALUES = 2 * MOST_POINTS, ZOOMS = 6 };
+enum { MOST_POINTS = 4096, MOST_VALUES = 2 * MOST_POINTS };
 
 static uint8_t chart[512 / 8 * 512];
 static uint64_t width, height;
@@ -73,96 +74,6 @@ static void need(uint8_t number, const char *call) {
     end(2);
 }
 
-// ---- six zooms
-
-// A zoom shows 2 to the power of `zoom` pixels for four cells, and leaves out what is nearer than a pixel to the line
-// that it draws.
-static const double squared_tolerances[ZOOMS] = {16, 4, 1, 1.0 / 4, 1.0 / 16, 1.0 / 64};
-static const char *const scales[ZOOMS] = {"1/4", "1/2", "1", "2", "4", "8"};
-
-typedef struct {
-    window in;
-    int zoom;
-    int x, y; // the cell in its middle
-} view;
-
-static int scaled(int cells, int zoom) {
-    return cells * (1 << zoom) / 4;
-}
-
-static int screen_x(const view *v, int x) {
-    return v->in.left + v->in.width / 2 + scaled(x - v->x, v->zoom);
-}
-
-static int screen_y(const view *v, int y) {
-    return v->in.top + v->in.height / 2 + scaled(y - v->y, v->zoom);
-}
-
-// A dot every four pixels where the survey has sand.
-static void draw_sand(const view *v) {
-    const int middle_x = v->in.width / 2, middle_y = v->in.height / 2;
-    for (int y = 2; y < v->in.height; y += 4)
-        for (int x = 2; x < v->in.width; x += 4) {
-            const int cell_x = v->x + ((x - middle_x) * 4 >> v->zoom), cell_y = v->y + ((y - middle_y) * 4 >> v->zoom);
-            if (sandline_pixel(width, height, chart, sizeof chart, cell_x, cell_y))
-                draw_pixel(&v->in, v->in.left + x, v->in.top + y);
-        }
-}
-
-static void draw_outline(const view *v, const int32_t *list, uint64_t many) {
-    for (uint64_t k = 1; k < many; k++)
-        draw_line(&v->in, screen_x(v, list[2 * k - 2]), screen_y(v, list[2 * k - 1]), screen_x(v, list[2 * k]),
-                  screen_y(v, list[2 * k + 1]));
-}
-
-// The points of the widest zoom, which every nearer one has too. (There they are all of its corners.)
-static void draw_lasting_points(const view *v) {
-    if (v->zoom == 0) return;
-    for (uint64_t k = 0; k < points; k++)
-        if (numbers[k] > squared_tolerances[0])
-            draw_box(&v->in, screen_x(v, kept[2 * k]) - 1, screen_y(v, kept[2 * k + 1]) - 1, 3, 3, true);
-}
-
-// Its scale on the left, how many points it draws on the right.
-static void draw_label(const view *v, uint64_t many) {
-    const int left = v->in.left, right = left + v->in.width, top = v->in.top;
-    draw_box(&v->in, left, top, 17, 9, false);
-    draw_text(&v->in, left + 2, top + 2, scales[v->zoom]);
-    draw_box(&v->in, right - 19, top, 19, 9, false);
-    draw_number(&v->in, right - 17, top + 2, (uint32_t)many);
-}
-
-static void draw_party(const view *v, int x, int y) {
-    const int at_x = screen_x(v, x), at_y = screen_y(v, y);
-    draw_box(&v->in, at_x - 4, at_y - 4, 9, 9, false);
-    draw_line(&v->in, at_x - 3, at_y, at_x + 3, at_y);
-    draw_line(&v->in, at_x, at_y - 3, at_x, at_y + 3);
-}
-
-// Three beside each other, two rows, black between them. The widest has the chart's middle in its own, the others the
-// party.
-static view view_of(int zoom, int x, int y) {
-    const view v = {{134 * (zoom % 3), 121 * (zoom / 3), 132, 119}, zoom, x, y};
-    return v;
-}
-
-static void draw_frames(void) {
-    const window all = {0, 0, SCREEN_WIDTH, SCREEN_HEIGHT};
-    draw_box(&all, 132, 0, 2, SCREEN_HEIGHT, true);
-    draw_box(&all, 266, 0, 2, SCREEN_HEIGHT, true);
-    draw_box(&all, 0, 119, SCREEN_WIDTH, 2, true);
-}
-
-static void draw(int zoom, const int32_t *list, uint64_t many) {
-    const int party_x = PARTY_X, party_y = PARTY_Y;
-    const view v = zoom == 0 ? view_of(zoom, (int)width / 2, (int)height / 2) : view_of(zoom, party_x, party_y);
-    draw_sand(&v);
-    draw_party(&v, party_x, party_y);
-    draw_outline(&v, list, many);
-    draw_lasting_points(&v);
-    draw_label(&v, many);
-}
-
 // The numbers of a zigzag of which each split takes one point off: no list of so many points has more distances.
 static void zigzag(int32_t many) {
     uint64_t length, distances;
@@ -182,7 +93,7 @@ static void zigzag(int32_t many) {
 static void read_survey(void) {
     uint64_t length;
     const uint32_t time = begin();
-    need(sandline_read_pbm(survey, (uint64_t)(survey_end - survey), chart, sizeof chart, &width, &height, &length),
+    need(sandline_read_pbm(file, (uint64_t)(file_end - file), chart, sizeof chart, &width, &height, &length),
          "the survey");
     took("read       ", instructions_since(time));
     said(", ", width);
@@ -214,10 +125,10 @@ static void find_outline(void) {
 }
 
 static void draw_zooms(void) {
+    const survey of = {chart, sizeof chart, width, height, kept, numbers, points, PARTY_X, PARTY_Y};
     uint64_t shown[ZOOMS];
     uint64_t zooming = 0, drawing = 0;
     uint32_t time = begin();
-    clear_screen();
     draw_frames();
     drawing += instructions_since(time);
     for (int zoom = 0; zoom < ZOOMS; zoom++) {
@@ -227,7 +138,7 @@ static void draw_zooms(void) {
              "a zoom");
         zooming += instructions_since(time);
         time = now();
-        draw(zoom, walked, shown[zoom]);
+        draw_zoom(&of, zoom, walked, shown[zoom]);
         drawing += instructions_since(time);
     }
     took("six zooms  ", zooming);
