@@ -1,0 +1,173 @@
+// Drawing: the sand of the charts, outlines and marks, on canvases.
+'use strict';
+
+const View = (() => {
+    const names = ['water', 'sand', 'old', 'outline', 'lost', 'next', 'stays', 'pick'];
+
+    // The colours of the style sheet, light or dark.
+    function colours() {
+        const style = getComputedStyle(document.documentElement);
+        return Object.fromEntries(names.map((name) => [name, style.getPropertyValue('--' + name).trim()]));
+    }
+
+    // #rrggbb as a pixel of an ImageData.
+    function pixel(colour) {
+        const rgb = parseInt(colour.slice(1), 16);
+        return (0xff000000 | (rgb & 255) << 16 | (rgb & 0xff00) | rgb >> 16) >>> 0;
+    }
+
+    function lay(pixels, stride, chart, colour) {
+        const row = Math.ceil(chart.width / 8);
+        for (let y = 0; y < chart.height; y++) {
+            for (let k = 0; k < row; k++) {
+                const byte = chart.pixels[row * y + k];
+                if (byte === 0) continue;
+                const at = stride * y + 8 * k;
+                for (let bit = 0; bit < 8; bit++) if (byte & 128 >> bit) pixels[at + bit] = colour;
+            }
+        }
+    }
+
+    // The sand of both charts, a pixel a cell: yesterday's under tonight's.
+    function sand(chart, yesterday, palette) {
+        const charts = [yesterday, chart].filter((one) => one !== null);
+        const width = Math.max(...charts.map((one) => Math.ceil(one.width / 8) * 8));
+        const height = Math.max(...charts.map((one) => one.height));
+        const image = document.createElement('canvas');
+        image.width = width;
+        image.height = height;
+        const data = new ImageData(width, height);
+        const pixels = new Uint32Array(data.data.buffer);
+        if (yesterday !== null) lay(pixels, width, yesterday, pixel(palette.old));
+        if (chart !== null) lay(pixels, width, chart, pixel(palette.sand));
+        image.getContext('2d').putImageData(data, 0, 0);
+        return image;
+    }
+
+    function bounds(points) {
+        const box = { left: Infinity, top: Infinity, right: -Infinity, bottom: -Infinity };
+        for (let k = 0; k < points.length; k += 2) {
+            box.left = Math.min(box.left, points[k]);
+            box.right = Math.max(box.right, points[k]);
+            box.top = Math.min(box.top, points[k + 1]);
+            box.bottom = Math.max(box.bottom, points[k + 1]);
+        }
+        return box;
+    }
+
+    // Pixels a cell, and the cell at the top left, so that a box stands in the middle of a canvas, water around it.
+    function fit(canvas, box) {
+        const margin = Math.max(1, Math.max(box.right - box.left, box.bottom - box.top) / 16);
+        const wide = box.right - box.left + 2 * margin;
+        const high = box.bottom - box.top + 2 * margin;
+        const scale = Math.min(canvas.width / wide, canvas.height / high, 64 * ratio());
+        return {
+            scale,
+            left: (box.left + box.right) / 2 - canvas.width / scale / 2,
+            top: (box.top + box.bottom) / 2 - canvas.height / scale / 2,
+        };
+    }
+
+    const ratio = () => Math.min(window.devicePixelRatio || 1, 3);
+
+    // Makes a canvas as fine as the screen that it stands on.
+    function fine(canvas) {
+        const width = Math.max(1, Math.round(canvas.clientWidth * ratio()));
+        const height = Math.max(1, Math.round(canvas.clientHeight * ratio()));
+        if (canvas.width !== width) canvas.width = width;
+        if (canvas.height !== height) canvas.height = height;
+    }
+
+    const onCanvas = (at, x, y) => [(x - at.left) * at.scale, (y - at.top) * at.scale];
+
+    function drawSand(canvas, at, image, palette) {
+        const to = canvas.getContext('2d');
+        to.setTransform(1, 0, 0, 1, 0, 0);
+        to.fillStyle = palette.water;
+        to.fillRect(0, 0, canvas.width, canvas.height);
+        if (image === null) return to;
+        to.imageSmoothingEnabled = at.scale < 1;
+        to.drawImage(image, -at.left * at.scale, -at.top * at.scale, image.width * at.scale, image.height * at.scale);
+        return to;
+    }
+
+    function drawOutline(to, at, points, palette, width) {
+        to.beginPath();
+        for (let k = 0; k < points.length; k += 2) to.lineTo(...onCanvas(at, points[k], points[k + 1]));
+        to.lineWidth = width * ratio();
+        to.lineJoin = 'round';
+        to.strokeStyle = palette.outline;
+        to.stroke();
+    }
+
+    // One path for all marks of a kind.
+    function marks(to, at, points, size, shape) {
+        const r = size * ratio();
+        to.beginPath();
+        for (const [x, y] of points) shape(to, ...onCanvas(at, x, y), r);
+    }
+
+    const dot = (to, x, y, r) => {
+        to.moveTo(x + r, y);
+        to.arc(x, y, r, 0, 2 * Math.PI);
+    };
+    const cross = (to, x, y, r) => {
+        to.moveTo(x - r, y - r);
+        to.lineTo(x + r, y + r);
+        to.moveTo(x + r, y - r);
+        to.lineTo(x - r, y + r);
+    };
+    const triangle = (to, x, y, r) => {
+        to.moveTo(x, y - 1.2 * r);
+        to.lineTo(x + 1.2 * r, y + r);
+        to.lineTo(x - 1.2 * r, y + r);
+        to.closePath();
+    };
+
+    function drawStays(to, at, points, palette, size) {
+        marks(to, at, points, size, dot);
+        to.fillStyle = palette.stays;
+        to.fill();
+    }
+
+    function drawNext(to, at, points, palette, size) {
+        marks(to, at, points, size, triangle);
+        to.fillStyle = palette.water;
+        to.fill();
+        to.lineWidth = 2 * ratio();
+        to.strokeStyle = palette.next;
+        to.stroke();
+    }
+
+    // On a pale rim, so that they stand out from sand whatever the eyes.
+    function drawLost(to, at, points, palette, size, width = 2) {
+        marks(to, at, points, size, cross);
+        to.lineWidth = (width + 1.6) * ratio();
+        to.strokeStyle = palette.water;
+        to.stroke();
+        to.lineWidth = width * ratio();
+        to.strokeStyle = palette.lost;
+        to.stroke();
+    }
+
+    // A ring around a place: the point that was picked, or where cells touch only diagonally.
+    function drawRings(to, at, points, colour, size) {
+        marks(to, at, points, size, dot);
+        to.lineWidth = 2.5 * ratio();
+        to.strokeStyle = colour;
+        to.stroke();
+    }
+
+    // A picture of one bit a pixel, black on white.
+    function drawBits(canvas, picture) {
+        const data = new ImageData(picture.width, picture.height);
+        const pixels = new Uint32Array(data.data.buffer).fill(0xffffffff);
+        lay(pixels, picture.width, picture, 0xff000000);
+        canvas.getContext('2d').putImageData(data, 0, 0);
+    }
+
+    return {
+        colours, sand, bounds, fit, fine, ratio, onCanvas, drawSand, drawOutline, drawStays, drawNext, drawLost, drawRings,
+        drawBits,
+    };
+})();
