@@ -83,10 +83,10 @@
 #include <stdint.h>
 
 // The version of this header, and of the archive that is made beside it (docs/CHANGES.md).
-#define SANDLINE_VERSION "2.1.1"
+#define SANDLINE_VERSION "2.2.0"
 #define SANDLINE_VERSION_MAJOR 2
-#define SANDLINE_VERSION_MINOR 1
-#define SANDLINE_VERSION_PATCH 1
+#define SANDLINE_VERSION_MINOR 2
+#define SANDLINE_VERSION_PATCH 0
 
 #ifdef __cplusplus
 extern "C" {

@@ -54,6 +54,11 @@ function ragged(size, seed) {
 }
 
 const survey512 = fs.readFileSync(join(top, 'guide/survey.pbm'));
+// The same bank seven cells to the left and nine lower down: yesterday's.
+const moved = raw(512, 512, (x, y) => {
+    const [from, to] = [y - 9, x + 7];
+    return from >= 0 && to < 512 && (survey512[survey512.length - 64 * (512 - from) + (to >> 3)] & 128 >> (to & 7)) !== 0;
+});
 const bank = fs.readFileSync(join(top, 'docs/zooms/bank.pbm'));
 const next = noise(7);
 const charts = [
@@ -241,8 +246,8 @@ async function main() {
             return fs.readFileSync(join(room, name));
         };
         await hand('#tonight', join(room, 'survey.pbm'));
-        await hand('#yesterday', join(room, 'island.pbm'));
-        same(await text('yesterday-name'), 'island.pbm', 'yesterday’s chart');
+        await hand('#yesterday', write('yesterday.pbm', moved));
+        same(await text('yesterday-name'), 'yesterday.pbm', 'yesterday’s chart');
         await browser.run(`
             document.getElementById('party-x').value = '292';
             document.getElementById('party-y').value = '258';
@@ -277,6 +282,8 @@ async function main() {
 
         // Nothing was fetched; pictures of the page at several sizes.
         same(await browser.run('return performance.getEntriesByType("resource").length'), 0, 'what the page fetched');
+        await hand('#tonight', join(room, 'survey.pbm'));
+        await setTolerance(16);
         for (const [width, height] of [[1366, 1500], [1024, 1700], [768, 2300], [390, 3200]]) {
             await browser.size(width, height);
             await pause(400);
