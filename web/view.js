@@ -2,7 +2,7 @@
 'use strict';
 
 const View = (() => {
-    const names = ['water', 'sand', 'old', 'outline', 'lost', 'next', 'stays', 'pick'];
+    const names = ['water', 'sand', 'old', 'edge', 'outline', 'lost', 'next', 'stays', 'pick', 'rim'];
 
     // The colours of the style sheet, light or dark.
     function colours() {
@@ -23,23 +23,38 @@ const View = (() => {
                 const byte = chart.pixels[row * y + k];
                 if (byte === 0) continue;
                 const at = stride * y + 8 * k;
-                for (let bit = 0; bit < 8; bit++) if (byte & 128 >> bit) pixels[at + bit] = colour;
+                for (let bit = 0; bit < 8; bit++) if ((byte & 128 >> bit) !== 0) pixels[at + bit] = colour;
             }
         }
     }
 
-    // The sand of both charts, a pixel a cell: yesterday's under tonight's.
+    // The cells of a chart that have water beside them, as a chart: eight at a time.
+    function edges(chart) {
+        const row = Math.ceil(chart.width / 8);
+        const byte = (x, y) => (x < 0 || x >= row || y < 0 || y >= chart.height ? 0 : chart.pixels[row * y + x]);
+        const pixels = chart.pixels.map((own, at) => {
+            const x = at % row;
+            const y = (at - x) / row;
+            const left = own >> 1 | byte(x - 1, y) << 7;
+            const right = own << 1 | byte(x + 1, y) >> 7;
+            return own & ~(left & right & byte(x, y - 1) & byte(x, y + 1));
+        });
+        return { width: chart.width, height: chart.height, pixels };
+    }
+
+    // The sand of both charts, a pixel a cell: yesterday's, with its edges, under tonight's.
     function sand(chart, yesterday, palette) {
-        const charts = [yesterday, chart].filter((one) => one !== null);
-        const width = Math.max(...charts.map((one) => Math.ceil(one.width / 8) * 8));
-        const height = Math.max(...charts.map((one) => one.height));
+        const charts = [yesterday === null ? null : yesterday.chart, chart].filter((one) => one !== null);
         const image = document.createElement('canvas');
-        image.width = width;
-        image.height = height;
-        const data = new ImageData(width, height);
+        image.width = Math.max(...charts.map((one) => Math.ceil(one.width / 8) * 8));
+        image.height = Math.max(...charts.map((one) => one.height));
+        const data = new ImageData(image.width, image.height);
         const pixels = new Uint32Array(data.data.buffer);
-        if (yesterday !== null) lay(pixels, width, yesterday, pixel(palette.old));
-        if (chart !== null) lay(pixels, width, chart, pixel(palette.sand));
+        if (yesterday !== null) {
+            lay(pixels, image.width, yesterday.chart, pixel(palette.old));
+            lay(pixels, image.width, yesterday.edges, pixel(palette.edge));
+        }
+        if (chart !== null) lay(pixels, image.width, chart, pixel(palette.sand));
         image.getContext('2d').putImageData(data, 0, 0);
         return image;
     }
@@ -124,6 +139,18 @@ const View = (() => {
         to.closePath();
     };
 
+    // Marks stand on a pale rim, so that they are seen on sand and on water, whatever the eyes; some are filled with it.
+    function strokeOnRim(to, palette, width, colour, filled = false) {
+        to.lineWidth = (width + 1.8) * ratio();
+        to.strokeStyle = palette.rim;
+        to.stroke();
+        to.fillStyle = palette.rim;
+        if (filled) to.fill();
+        to.lineWidth = width * ratio();
+        to.strokeStyle = colour;
+        to.stroke();
+    }
+
     function drawStays(to, at, points, palette, size) {
         marks(to, at, points, size, dot);
         to.fillStyle = palette.stays;
@@ -132,30 +159,26 @@ const View = (() => {
 
     function drawNext(to, at, points, palette, size) {
         marks(to, at, points, size, triangle);
-        to.fillStyle = palette.water;
-        to.fill();
-        to.lineWidth = 2 * ratio();
-        to.strokeStyle = palette.next;
-        to.stroke();
+        strokeOnRim(to, palette, 2, palette.next, true);
     }
 
-    // On a pale rim, so that they stand out from sand whatever the eyes.
     function drawLost(to, at, points, palette, size, width = 2) {
         marks(to, at, points, size, cross);
-        to.lineWidth = (width + 1.6) * ratio();
-        to.strokeStyle = palette.water;
-        to.stroke();
-        to.lineWidth = width * ratio();
-        to.strokeStyle = palette.lost;
-        to.stroke();
+        strokeOnRim(to, palette, width, palette.lost);
     }
 
-    // A ring around a place: the point that was picked, or where cells touch only diagonally.
-    function drawRings(to, at, points, colour, size) {
-        marks(to, at, points, size, dot);
-        to.lineWidth = 2.5 * ratio();
-        to.strokeStyle = colour;
-        to.stroke();
+    // A ring around a place: the point that was picked, or where cells touch only at a corner. At most 500 are drawn, of
+    // those that lie in the picture.
+    function drawRings(to, at, points, palette, colour, size) {
+        const { width, height } = to.canvas;
+        const seen = [];
+        for (const [x, y] of points) {
+            const [px, py] = onCanvas(at, x, y);
+            if (px >= 0 && py >= 0 && px <= width && py <= height) seen.push([x, y]);
+            if (seen.length === 500) break;
+        }
+        marks(to, at, seen, size, dot);
+        strokeOnRim(to, palette, 2.5, colour);
     }
 
     // A picture of one bit a pixel, black on white.
@@ -167,7 +190,7 @@ const View = (() => {
     }
 
     return {
-        colours, sand, bounds, fit, fine, ratio, onCanvas, drawSand, drawOutline, drawStays, drawNext, drawLost, drawRings,
+        colours, edges, sand, bounds, fit, fine, ratio, onCanvas, drawSand, drawOutline, drawStays, drawNext, drawLost, drawRings,
         drawBits,
     };
 })();

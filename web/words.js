@@ -3,85 +3,118 @@
 'use strict';
 
 const Words = (() => {
-    const many = (n) => n.toLocaleString('en-GB');
-    const cells = (n) => (n === 1 ? '1 cell' : many(n) + ' cells');
-    const numbered = (text, number) => `${text} (${number})`;
+    const GREATEST = 999999999; // that is read as a number; what is longer is told as over it
 
-    // What a PBM file says of itself: the kind, the sizes, and where its raster begins; as much as can be read.
+    const many = (n) => (n > GREATEST ? `over ${many(GREATEST)}` : n.toLocaleString('en-GB'));
+    const counted = (n, one, more = `${one}s`) => `${many(n)} ${n === 1 ? one : more}`;
+    const cells = (n) => counted(n, 'cell');
+    const place = ([x, y]) => `(${x}, ${y})`;
+    const refusal = (text, number) => `${text} (refusal ${number}).`;
+
+    const isSpace = (byte) => byte === 32 || (byte >= 9 && byte <= 13);
+    const isDigit = (byte) => byte >= 48 && byte <= 57;
+
+    // What a PBM file says of itself, as far as it can be read: P1 or P4, the sizes, where its raster begins; and what
+    // stands in the way of the next.
     function header(file) {
-        const text = String.fromCharCode(...file.subarray(0, 4096));
-        const gap = '(?:[ \\t\\n\\v\\f\\r]|#[^\\n\\r]*[\\n\\r])';
-        const found = new RegExp(`^(P[14])(?:${gap}+([0-9]+)(?:${gap}+([0-9]+)(${gap})?)?)?`).exec(text);
-        if (found === null) return null;
-        return {
-            plain: found[1] === 'P1',
-            width: found[2] === undefined ? undefined : Number(found[2]),
-            height: found[3] === undefined ? undefined : Number(found[3]),
-            from: found[4] === undefined ? undefined : found[0].length,
-        };
+        const says = {};
+        if (file[0] !== 80 || (file[1] !== 49 && file[1] !== 52)) return { stopped: 'magic' };
+        says.plain = file[1] === 49;
+        let at = 2;
+        for (const side of ['width', 'height']) {
+            const from = at;
+            for (;;) {
+                if (isSpace(file[at])) at++;
+                else if (file[at] === 35) while (at < file.length && file[at] !== 10 && file[at] !== 13) at++;
+                else break;
+            }
+            if (at === from && at < file.length) return { ...says, stopped: `${side}-space` };
+            const digits = at;
+            while (isDigit(file[at])) at++;
+            if (at === digits) return { ...says, stopped: side };
+            let first = digits;
+            while (first < at - 1 && file[first] === 48) first++;
+            says[side] = at - first > 9 ? Infinity : Number(String.fromCharCode(...file.subarray(first, at)));
+        }
+        if (isSpace(file[at])) return { ...says, from: at + 1 };
+        if (file[at] !== 35) return { ...says, stopped: 'raster' };
+        while (at < file.length && file[at] !== 10 && file[at] !== 13) at++;
+        return { ...says, from: at + 1 };
     }
 
     function badSize({ width, height }) {
-        const off = (n) => n < 1 || n > 512;
         const side = (n, which) => `${many(n)} cells ${which}, and ${n < 1 ? '1 is the least' : '512 is the most'}`;
         const told = [];
-        if (off(width)) told.push(side(width, 'wide'));
-        if (off(height)) told.push(side(height, 'high'));
-        return `This chart is ${told.join('; it is ')}.`;
+        if (width < 1 || width > 512) told.push(side(width, 'wide'));
+        if (height < 1 || height > 512) told.push(side(height, 'high'));
+        return told.length === 0 ? 'this chart is not 1 to 512 cells wide and high' : `this chart is ${told.join('; it is ')}`;
     }
 
-    function badPicture(file, most) {
-        if (file.length === 0) return 'This file is empty.';
+    const unreadable = {
+        magic: 'this is not a PBM picture: it does not begin with P1 or P4. Save the survey as PBM, the black and white kind ' +
+            'of Netpbm',
+        'width-space': 'this is not a PBM picture: there is no space after its first two letters',
+        width: 'this PBM file does not say, in digits, how many cells it is wide',
+        'height-space': 'in this PBM file there is no space after the width',
+        height: 'this PBM file does not say, in digits, how many cells it is high',
+        raster: 'in this PBM file there is no space after the height, and so no picture',
+    };
+
+    // `size` is that of the whole file, of which `file` is what was read.
+    function badPicture(file, size) {
+        if (size === 0) return 'this file is empty';
         const says = header(file);
-        if (says === null) {
-            return 'This file is no PBM picture: it does not begin with P1 or P4. Save the survey as a PBM, the black and ' +
-                'white kind of Netpbm.';
+        if (size > file.length) {
+            return `only the first ${many(file.length)} bytes of a file are read, and the picture is not whole within them`;
         }
-        if (says.height === undefined) return 'This PBM file does not say how many cells it is wide and high.';
-        if (says.from === undefined) return 'Behind the height of this PBM file there is no space, and so no picture.';
+        if (says.stopped !== undefined) return unreadable[says.stopped];
         const { width, height, plain, from } = says;
-        const size = `This PBM file says that it is ${many(width)} by ${many(height)} cells`;
+        const is = `this PBM file says that it is ${many(width)} by ${many(height)} cells`;
+        const only = (n) => (n === 0 ? 'none is there' : n === 1 ? 'only 1 is there' : `only ${many(n)} are there`);
         if (!plain) {
             const bytes = Math.ceil(width / 8) * height;
-            return `${size}, which is ${many(bytes)} bytes, and only ${many(Math.max(0, file.length - from))} are there.`;
+            return `${is}, which is ${counted(bytes, 'byte')}, and ${only(Math.max(0, file.length - from))}`;
         }
-        const raster = file.subarray(from, most);
-        const wrong = raster.findIndex((byte) => !' \t\n\v\f\r01'.includes(String.fromCharCode(byte)));
-        const there = (wrong < 0 ? raster : raster.subarray(0, wrong)).filter((byte) => byte === 48 || byte === 49).length;
-        if (wrong >= 0 && there < width * height) {
-            return `${size}, but behind ${cells(there)} stands a byte that is neither 0 nor 1 nor white space.`;
+        let there = 0;
+        for (let at = from; at < file.length && there < width * height; at++) {
+            if (file[at] === 48 || file[at] === 49) there++;
+            else if (file[at] === 35) return `${is}, but after ${cells(there)} there is a comment, which may not stand among cells`;
+            else if (!isSpace(file[at])) return `${is}, but after ${cells(there)} there is a byte that is not 0, 1 or white space`;
         }
-        return `${size}, ${many(width * height)} in all, and only ${many(there)} are there.`;
+        return `${is}, ${many(width * height)} in all, and ${only(there)}`;
     }
 
     // A file that cannot be read as a chart.
-    function ofFile(number, file, most) {
-        const says = header(file);
-        if (number === 1 && says !== null) return numbered(badSize(says), 1);
-        if (number === 12) return numbered(badPicture(file, most), 12);
-        return numbered('This file cannot be read as a chart', number);
-    }
+    const ofFile = (number, file, size) =>
+        refusal(number === 1 ? badSize(header(file)) : number === 12 ? badPicture(file, size) : 'this file cannot be read', number);
 
-    const place = ([x, y]) => `(${x}, ${y})`;
-
-    // A walk that does not close, with the places where cells touch only diagonally.
+    // A walk that does not close, with the places along its bank where cells touch only at a corner.
     function stuck(start, touches) {
-        const begin = `The walk from ${place(start)} never comes back to its start (9)`;
-        if (touches.length === 0) return `${begin}: it begins in the middle of a straight edge. Choose another start.`;
-        const more = touches.length - 1;
-        const others = more === 0 ? '' : ` and at ${more === 1 ? '1 other place' : many(more) + ' other places'}`;
-        return `${begin}: cells touch only diagonally at ${place(touches[0])}${others}, ringed on the chart. Set or ` +
-            'clear a cell there, and load the chart again.';
+        const begin = refusal(`the walk from ${place(start)} never comes back to its start`, 9);
+        if (touches.length === 0) return `${begin} It begins in the middle of a straight edge.`;
+        const others = touches.length === 1 ? '' : ` and at ${counted(touches.length - 1, 'other place')}`;
+        return `${begin} Cells touch only at a corner at ${place(touches[0])}${others}, ringed on the chart: fill or clear a ` +
+            'cell there, and load the chart again.';
     }
 
-    const blank = numbered('This chart is blank: it has no sand, and so no outline', 8) + '.';
+    // A walk that closes, but passes such places.
+    function passes(touches) {
+        const where = touches.length === 1 ? `${place(touches[0])}, where cells touch only at a corner`
+            : `${many(touches.length)} places where cells touch only at a corner, the first at ${place(touches[0])}`;
+        return `The outline passes ${where}, ringed on the chart: it may leave out a part of this bank, or take in another.`;
+    }
+
+    const blank = refusal('this chart is blank: it has no sand, and so no outline', 8);
 
     const tooMany = (walked) =>
-        numbered(`This outline has ${many(walked)} points, and 4,096 is the most that a guide holds`, 2) + '.';
+        refusal(`this outline has ${many(walked)} points, and 4,096 is the most that a guide holds`, 2) +
+        ' Smooth the survey, or cut the chart into smaller ones.';
 
-    const badTolerance = numbered('A squared tolerance is a number from 0 to 4,294,967,296', 5) + '.';
+    const badTolerance = refusal('a squared tolerance is a number from 0 to 4,294,967,296', 5);
 
-    const other = (call, number) => numbered(`The library refuses to ${call}`, number) + '.';
+    const badParty = 'the party stands at a cell: x and y are whole numbers from −16,383 to 16,383.';
 
-    return { many, cells, place, ofFile, stuck, blank, tooMany, badTolerance, other };
+    const other = (call, number) => refusal(`the library does not ${call}`, number);
+
+    return { many, counted, cells, place, ofFile, stuck, passes, blank, tooMany, badTolerance, badParty, other };
 })();
