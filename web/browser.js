@@ -34,11 +34,12 @@ async function open({ downloads } = {}) {
         if (!answer.ok) throw new Error(`${method} ${path}: ${value.message}`);
         return value;
     };
-    const words = ['--headless=new', '--no-sandbox', '--disable-gpu', '--force-device-scale-factor=1',
-        '--allow-file-access-from-files', `--user-data-dir=${home}`];
+    const words = ['--headless=new', '--no-sandbox', '--disable-gpu', '--force-device-scale-factor=1', `--user-data-dir=${home}`];
     const prefs = downloads === undefined ? {} : { 'download.default_directory': downloads };
-    const { sessionId } = await ask('POST', '/session', {
-        capabilities: { alwaysMatch: { 'goog:chromeOptions': { args: words, prefs }, 'goog:loggingPrefs': { browser: 'ALL' } } },
+    const asked = { 'goog:chromeOptions': { args: words, prefs }, 'goog:loggingPrefs': { browser: 'ALL' } };
+    const { sessionId } = await ask('POST', '/session', { capabilities: { alwaysMatch: asked } }).catch((error) => {
+        driver.kill();
+        throw error;
     });
     const at = `/session/${sessionId}`;
     const find = async (selector) => (await ask('POST', `${at}/element`, { using: 'css selector', value: selector }))[ELEMENT];
@@ -47,7 +48,6 @@ async function open({ downloads } = {}) {
         go: (url) => ask('POST', `${at}/url`, { url }),
         size: (width, height) => ask('POST', `${at}/window/rect`, { width, height }),
         run: (script, ...args) => ask('POST', `${at}/execute/sync`, { script, args }),
-        wait: (script, ...args) => ask('POST', `${at}/execute/async`, { script, args }),
         type: async (selector, text) => ask('POST', `${at}/element/${await find(selector)}/value`, { text }),
         click: async (selector) => ask('POST', `${at}/element/${await find(selector)}/click`),
         // A click at a place of an element, from its middle on; with shift, if asked for.
