@@ -1,4 +1,8 @@
 // What web/check does in the browser: node check.js TOP FOLDER [SCREEN.pbm]
+//
+// What is expected of a chart comes from the program `survey`, which oracle/compare holds to the original Rust; of the
+// guide's screen, from the firmware; of frames, from the fixed list. Sentences, and an outline of four corners, are
+// written by hand.
 'use strict';
 
 const { execFileSync } = require('node:child_process');

@@ -19,7 +19,7 @@ const Page = (() => {
 
     const nothing = () => ({
         name: '', chart: null, start: null, walked: null, points: null, numbers: null, touches: [], found: null,
-        party: null, screen: null, tolerance: 4, picked: -1,
+        party: null, screen: null, tolerance: 4, zoom: null, picked: -1,
     });
     let shown = nothing();
     let yesterday = null; // { name, chart, edges }
@@ -32,7 +32,9 @@ const Page = (() => {
     const figureAbove = (value) => {
         if (Number.isInteger(value)) return figure(value);
         const unit = 10 ** (Math.floor(Math.log10(value)) - 3);
-        return String(Number((Math.ceil(value / unit) * unit).toPrecision(4)));
+        const steps = (n) => Number((n * unit).toPrecision(4));
+        const least = Math.ceil(value / unit);
+        return String(steps(least) < value ? steps(least + 1) : steps(least));
     };
     const inCells = (tolerance) => {
         const side = Math.sqrt(tolerance);
@@ -64,6 +66,18 @@ const Page = (() => {
     const placeOf = (k) => [shown.points[2 * k], shown.points[2 * k + 1]];
 
     const zoomAt = (tolerance) => library.zoom(shown.points, shown.numbers, tolerance).points;
+
+    // The one that is shown large: what it keeps; of these, what stays at the next wider one, and what goes; and what the
+    // next nearer one still had.
+    function largeZoom() {
+        const { tolerance } = shown;
+        return {
+            points: zoomAt(tolerance),
+            stays: between(4 * tolerance, Infinity),
+            next: between(tolerance, 4 * tolerance),
+            lost: between(tolerance / 4, tolerance),
+        };
+    }
 
     // One of the six: what it keeps, what it has dropped since the one before it, and what the widest has too.
     function oneOfSix(k) {
@@ -122,12 +136,11 @@ const Page = (() => {
         if (at === null) at = { ...View.fit(canvas, boxOf()), fitted: true };
         const to = View.drawSand(canvas, at, image, palette);
         canvas.setAttribute('aria-label', `The bank at ${toleranceWords(shown.tolerance)}`);
-        if (shown.points !== null) {
-            const { tolerance } = shown;
-            View.drawOutline(to, at, zoomAt(tolerance), palette, 1.8);
-            View.drawStays(to, at, between(4 * tolerance, Infinity), palette, 3.2);
-            View.drawNext(to, at, between(tolerance, 4 * tolerance), palette, 4);
-            View.drawLost(to, at, between(tolerance / 4, tolerance), palette, 4);
+        if (shown.zoom !== null) {
+            View.drawOutline(to, at, shown.zoom.points, palette, 1.8);
+            View.drawStays(to, at, shown.zoom.stays, palette, 3.2);
+            View.drawNext(to, at, shown.zoom.next, palette, 4);
+            View.drawLost(to, at, shown.zoom.lost, palette, 4);
         }
         View.drawRings(to, at, shown.touches, palette, palette.lost, 7);
         if (shown.picked >= 0) View.drawRings(to, at, [placeOf(shown.picked)], palette, palette.pick, 8);
@@ -151,18 +164,17 @@ const Page = (() => {
         const { tolerance } = shown;
         $('tolerance-says').textContent = inCells(tolerance);
         $('slider').setAttribute('aria-valuetext', toleranceWords(tolerance));
-        [...$('zooms').querySelectorAll('button')].forEach((button, k) => button.setAttribute('aria-pressed', SIX[k] === tolerance));
-        if (shown.points === null) {
+        const panels = [...$('zooms').querySelectorAll('button')];
+        panels.forEach((button, k) => button.setAttribute('aria-pressed', SIX[k] === tolerance));
+        if (shown.zoom === null) {
             $('zoom-says').textContent = $('points-list').textContent = '–';
             return;
         }
-        const kept = zoomAt(tolerance);
-        const lost = between(tolerance / 4, tolerance).length;
-        const next = between(tolerance, 4 * tolerance).length;
-        $('zoom-says').textContent = `${Words.counted(kept.length / 2, 'point')}, ${Words.many(lost)} just dropped, ` +
-            `${Words.many(next)} ${next === 1 ? 'goes' : 'go'} next`;
+        const { points, next, lost } = shown.zoom;
+        $('zoom-says').textContent = `${Words.counted(points.length / 2, 'point')}, ${Words.many(lost.length)} just dropped, ` +
+            `${Words.many(next.length)} ${next.length === 1 ? 'goes' : 'go'} next`;
         let list = '';
-        for (let k = 0; k < kept.length; k += 2) list += `${k === 0 ? '' : ' '}${kept[k]},${kept[k + 1]}`;
+        for (let k = 0; k < points.length; k += 2) list += `${k === 0 ? '' : ' '}${points[k]},${points[k + 1]}`;
         $('points-list').textContent = list;
     }
 
@@ -203,6 +215,7 @@ const Page = (() => {
     }
 
     function showZoom() {
+        shown.zoom = shown.points === null ? null : largeZoom();
         drawLarge();
         sayZoom();
     }
@@ -429,7 +442,7 @@ const Page = (() => {
         const canvas = $('large');
         const [px, py] = View.onCanvas(at, x, y);
         if (px >= 0 && py >= 0 && px <= canvas.width && py <= canvas.height) return;
-        at = { scale: at.scale, left: x - canvas.width / at.scale / 2, top: y - canvas.height / at.scale / 2 };
+        at = View.centred(canvas, at.scale, [x, y]);
         drawLarge();
     }
 
@@ -654,7 +667,7 @@ const Page = (() => {
         addEventListener('dragleave', () => {
             if (--inside <= 0) hide();
         });
-        addEventListener('drop', withFiles(async (event) => {
+        addEventListener('drop', withFiles((event) => {
             const part = over(event);
             const files = [...event.dataTransfer.files];
             hide();
@@ -679,12 +692,10 @@ const Page = (() => {
 
     // Where the window alone has changed, the cell in the middle stays there, and the scale, unless all was fitted.
     function redraw() {
-        const canvas = $('large');
-        const [x, y] = middle();
+        const place = middle();
         palette = View.colours();
         measure();
-        at = at.fitted ? null
-            : { scale: at.scale, left: x - canvas.width / at.scale / 2, top: y - canvas.height / at.scale / 2 };
+        at = at.fitted ? null : View.centred($('large'), at.scale, place);
         showAll();
     }
 

@@ -36,11 +36,7 @@ const Saved = (() => {
 
     // `zooms` have points, lost and lasting places, a title and a caption; `box` is what of the charts is shown.
     function svg(name, chart, yesterday, zooms, box) {
-        const longer = Math.max(box.right - box.left, box.bottom - box.top, 1);
-        const margin = Math.max(1, longer / 16);
-        const view = {
-            left: box.left - margin, top: box.top - margin, right: box.right + margin, bottom: box.bottom + margin,
-        };
+        const view = View.around(box);
         const wide = view.right - view.left;
         const high = view.bottom - view.top;
         const scale = Math.min(SIDE / Math.max(wide, high), 32);

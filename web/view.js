@@ -70,17 +70,21 @@ const View = (() => {
         return box;
     }
 
-    // Pixels a cell, and the cell at the top left, so that a box stands in the middle of a canvas, water around it.
-    function fit(canvas, box) {
+    // A box with water around it, a sixteenth of its longer side.
+    function around(box) {
         const margin = Math.max(1, Math.max(box.right - box.left, box.bottom - box.top) / 16);
-        const wide = box.right - box.left + 2 * margin;
-        const high = box.bottom - box.top + 2 * margin;
-        const scale = Math.min(canvas.width / wide, canvas.height / high, 64 * ratio());
-        return {
-            scale,
-            left: (box.left + box.right) / 2 - canvas.width / scale / 2,
-            top: (box.top + box.bottom) / 2 - canvas.height / scale / 2,
-        };
+        return { left: box.left - margin, top: box.top - margin, right: box.right + margin, bottom: box.bottom + margin };
+    }
+
+    // How a canvas lies over the chart: so many pixels a cell, and a place in its middle.
+    const centred = (canvas, scale, [x, y]) =>
+        ({ scale, left: x - canvas.width / scale / 2, top: y - canvas.height / scale / 2 });
+
+    // So that a box and some water stand in it.
+    function fit(canvas, box) {
+        const { left, top, right, bottom } = around(box);
+        const scale = Math.min(canvas.width / (right - left), canvas.height / (bottom - top), 64 * ratio());
+        return centred(canvas, scale, [(left + right) / 2, (top + bottom) / 2]);
     }
 
     const ratio = () => Math.min(window.devicePixelRatio || 1, 3);
@@ -190,7 +194,7 @@ const View = (() => {
     }
 
     return {
-        colours, edges, sand, bounds, fit, fine, ratio, onCanvas, drawSand, drawOutline, drawStays, drawNext, drawLost, drawRings,
+        colours, edges, sand, bounds, around, centred, fit, fine, ratio, onCanvas, drawSand, drawOutline, drawStays, drawNext, drawLost, drawRings,
         drawBits,
     };
 })();
