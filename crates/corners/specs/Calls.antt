@@ -1,4 +1,4 @@
--- What `find_corners` refuses, what it answers, and what the flags lent to it then hold.
+-- What `find_corners` refuses and answers, and what the flags lent to it then hold.
 use Prim.Native.Nat.{ℕ}
 use mathlib.Core.Bool.{Bool, not, _&&_}
 use mathlib.Core.List.{List}

@@ -1,4 +1,4 @@
--- Document 01, "Numbers handed back": the refusals, their numbers, and how a call lists the tests that lead to them.
+-- Document 01, "Numbers handed back": the refusals and their numbers, and how a call lists the tests that lead to them.
 use Prim.Native.Nat.{ℕ}
 use mathlib.Core.Bool.{Bool, true, false}
 use mathlib.Core.Option.{Option, some}

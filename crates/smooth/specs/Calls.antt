@@ -1,4 +1,4 @@
--- What `subdivide_keep_corners` refuses, what it answers, and what the two buffers lent to it then hold.
+-- What `subdivide_keep_corners` refuses and answers, and what the two buffers lent to it then hold.
 use Prim.Native.Nat.{ℕ, _-_, _*_}
 use mathlib.Core.Bool.{Bool, not, _&&_, _||_}
 use mathlib.Core.List.{List, _++_}

@@ -1,4 +1,4 @@
--- Document 01, "Spiral": as the Rust's SpiralWalker, one step at a time. Odd sizes from 3 leave the square, as there.
+-- Document 01, "Spiral": the Rust's SpiralWalker, one step at a time. Odd sizes from 3 leave the square, as there.
 use Prim.Native.Nat.{ℕ, _+_, _*_, _/_, _%_}
 use mathlib.Core.Bool.{Bool, not, _&&_}
 use mathlib.Core.Option.{Option, some, none}
