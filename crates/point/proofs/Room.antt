@@ -1,5 +1,5 @@
--- How many places a list of n points asks for by document 01's rule, n, and 2 where n is 1; and where a buffer has them, the list fits it.
--- Assumes nothing.
+-- How many places a list of n points asks for by document 01's rule, n, and 2 where n is 1; where a buffer has them, the list fits it; and how
+-- many of the points are looked at. Assumes nothing.
 use Prim.Native.Nat.{ℕ, _+_, _*_, _/_, _<_, _≤_}
 use mathlib.Core.Bool.{Bool, true, false}
 use mathlib.Core.List.{List}
@@ -11,7 +11,7 @@ use lib.ListN.{length}
 use borrow.Author.Tests.{eqb-true, ne-eqb, lt-ltb, le-ltb}
 use Rattle.point.specs.Limits.{badPoints, inRange, placesFor}
 use Rattle.point.proofs.Claims.{whole-points}
-use Rattle.point.specs.Points.{count}
+use Rattle.point.specs.Points.{count, seen}
 
 -- a buffer of so many values, which are half as many points, is too short for so many places, or it is not
 pub too-short : (values places : ℕ) → values / 2 < places → ltb values (places * 2) ≡ true
@@ -55,3 +55,8 @@ some-points list n = omega arith
 
 pub places-fit : (list out : List ℤ) (places : ℕ) → places ≡ placesFor (count list) → places ≤ length out / 2 → placesFor (count list) * 2 ≤ length out
 places-fit list out places p h = omega arith
+
+-- no more points are looked at than there are
+pub seen-few : (closed : Bool) (m n : ℕ) → m ≡ seen n closed → m ≤ n
+seen-few true m n e = omega arith
+seen-few false m n e = omega arith

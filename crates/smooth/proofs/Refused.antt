@@ -20,16 +20,13 @@ use Rattle.smooth.specs.declared.scheme.Settings.{Settings}
 use Rattle.point.specs.Points.{count, seen}
 use Rattle.point.specs.declared.refusal.Verdict.{Verdict}
 use Rattle.point.specs.declared.refusal.Verdict.the-variants.{Fine}
+use Rattle.point.proofs.Room.{seen-few}
 use Rattle.smooth.specs.Calls.{isFlag, badFlags, badSettings, roundPlaces, roundRefusal}
 use Rattle.smooth.specs.inside.Parts.{restRefusal, roomFor}
 
 room-is : (closed : Bool) (m n : ℕ) → m ≡ seen n closed → (closed && ltb n 2) ≡ false → roomFor closed m ≤ roundPlaces n
 room-is true m n e f = omega (arith, ltb-false n 2 f)
 room-is false m n e f = omega arith
-
-seen-few : (closed : Bool) (m n : ℕ) → m ≡ seen n closed → m ≤ n
-seen-few true m n e = omega arith
-seen-few false m n e = omega arith
 
 module _ (list : List Float) (corners : List ℕ) (settings : Settings) (closed : Bool) (room flagRoom : ℕ) (v : Verdict)
     (says : v ≡ verdict (roundRefusal list corners settings closed room flagRoom)) (fine : v ≡ Fine) where

@@ -24,7 +24,7 @@ use Rattle.walker.specs.Answers.{walkedNumber}
 use Rattle.walker.proofs.Limit.{EndsAt, turns, goes-on, Runs, none-yet, one-more, TooLong, FirstTooLong}
 use Rattle.walker.specs.declared.Walked.the-variants.{Stuck, Refused}
 use Rattle.walker.proofs.run.Runs.{same-way, walker-step, ran, placed}
-use Rattle.walker.proofs.SamePoint.{same-point, test-same}
+use Rattle.point.proofs.SamePoint.{same-point, test-same}
 use Rattle.walker.proofs.WayBack.{Along}
 use Rattle.walker.proofs.ShortRuns.{room-most, on-lattice}
 use Rattle.walker.proofs.course.Follow.{whole-run, follow-is, on-edge, judged, followed}

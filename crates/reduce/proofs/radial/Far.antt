@@ -8,16 +8,12 @@ use native.Mathlib.Omega.{arith}
 use lib.Ieee.{Float, lt}
 use lib.ListN.{length, drop, getD, drop-of-length-le}
 use lib.Seq.{drop-cons}
-use lib.Signed.{≤ℤ-refl}
 use Rattle.point.specs.Points.{samePoint}
-use Rattle.laws.proofs.Integers.{le-leZ}
+use Rattle.point.proofs.SamePoint.{same-itself}
 use Rattle.point.specs.declared.PointI32.{PointI32}
 use Rattle.reduce.specs.Radial.{sqDist, radialEnd, radialFrom, lastOf, radial}
 
 -- ---- how many points it keeps
-
-same-itself : (p : PointI32) → samePoint p p ≡ true
-same-itself p = rw (le-leZ (≤ℤ-refl (p .x)), le-leZ (≤ℤ-refl (p .y)))
 
 one-at-most : (last prev : PointI32) → length (radialEnd last prev) ≤ 1
 one-at-most last prev = go (samePoint prev last) refl
