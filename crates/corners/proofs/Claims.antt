@@ -16,7 +16,7 @@ use Rattle.point.proofs.Claims.{refusal-changes-nothing}
 use Rattle.corners.specs.declared.Pair.{Pair}
 use Rattle.corners.specs.Corners.{cornersOf}
 use Rattle.corners.specs.Calls.{cornersRefusal, flagged, findCornersOf}
-use Rattle.corners.proofs.OneMore.{length-flags}
+use Rattle.corners.proofs.Flagged.{one-each}
 use Rattle.corners.proofs.flags.find_corners.Reads.{Post as Find-corners}
 
 -- ---- The contract leaves no choice: of equal arguments it allows one answer, and one last content of the flags. `Post` is the contract
@@ -39,5 +39,4 @@ module _ (list : List ℤ) (pair : Pair) (closed : Bool) where
   -- ---- there is one flag for each point that is looked at
 
   pub one-flag-each : length (cornersOf list pair closed) ≡ seen (count list) closed
-  unfolding cornersOf
-  one-flag-each = length-flags list pair closed (seen (count list) closed) 0 (seen (count list) closed)
+  one-flag-each = one-each list pair closed (seen (count list) closed) refl

@@ -1,6 +1,6 @@
 // The flags of a list.
 ghost use Prim.Native.Nat.{_≤_, _<_};
-ghost use mathlib.Core.Bool.{false, not, _&&_};
+ghost use mathlib.Core.Bool.{false, not, _&&_, _||_};
 ghost use mathlib.Core.Path.{_≡_};
 ghost use lib.IntN.{pos};
 ghost use lib.ListN.{length};
@@ -8,11 +8,13 @@ ghost use lib.Signed.{leZ};
 ghost use Rattle.laws.specs.Lists.{over};
 ghost use Rattle.point.specs.Limits.{badPoints};
 ghost use Rattle.point.specs.Points.{count, seen};
-ghost use Rattle.corners.specs.Corners.{isEnd, isCorner, flag, cornersOf};
+ghost use Rattle.corners.specs.Corners.{flag, cornersOf};
+ghost use Rattle.corners.specs.Neighbours.{isEndAt};
 ghost use Rattle.corners.specs.Calls.{fair, findCornersOf};
 ghost use Rattle.corners.specs.inside.Sizes.{Moderate};
 use crate::Pair;
-use crate::turns::is_sharp;
+use crate::runs::first_run;
+use crate::runs::run_at;
 use point::Answer;
 use point::Refusal;
 
@@ -57,16 +59,20 @@ fn up_to_1000(low: i32, v: i32) -> bool
     low <= v && v <= 1000
 }
 
-// Writes the flags of the first `m` points.
+// Writes the flags of the first `m` points, run by run of equal ones: a run turns as one point does.
 fn write(points: &[i32], pair: Pair, closed: bool, m: usize, flags: &mut [u8])
     requires { ⌜ (badPoints (now points) ≡ false) × Moderate pair × (m ≡ seen (count (now points)) closed) × (m ≤ length (now flags)) ⌝ }
     ensures { λ _. ⌜ now (flags .exit) ≡ over (cornersOf (now (points .entry)) pair closed) (now (flags .entry)) ⌝ }
 {
+    let mut run = first_run(points, pair, closed, m);
     let mut i = 0;
     while i < m {
         let k = i;
         i += 1;
-        flags[k] = flag(is_corner(points, pair, closed, m, k));
+        flags[k] = flag(is_corner(closed, m, k, run.turned));
+        if i == run.next {
+            run = run_at(points, pair, closed, m, i, run.p, run.to);
+        }
     }
 }
 
@@ -77,21 +83,18 @@ fn flag(corner: bool) -> u8
     if corner { 1 } else { 0 }
 }
 
-// Whether the point at a position, of the first `m`, is a corner.
-fn is_corner(points: &[i32], pair: Pair, closed: bool, m: usize, i: usize) -> bool
-    requires { ⌜ (badPoints (now points) ≡ false) × Moderate pair × (i < m) ⌝ }
-    ensures { λ r. ⌜ r ≡ isCorner (now (points .entry)) pair closed m i ⌝ }
+// Whether the point at a position of the first `m` is a corner: an end of an open list, or where it turned.
+fn is_corner(closed: bool, m: usize, i: usize, turned: bool) -> bool
+    requires { ⌜ i < m ⌝ }
+    ensures { λ r. ⌜ r ≡ ((not closed && isEndAt m i) || turned) ⌝ }
 {
-    if is_open_end(closed, m, i) {
-        return true;
-    }
-    is_sharp(points, pair, m, i)
+    is_open_end(closed, m, i) || turned
 }
 
 // Whether a position is at an end of an open list.
 fn is_open_end(closed: bool, m: usize, i: usize) -> bool
     requires { ⌜ i < m ⌝ }
-    ensures { λ r. ⌜ r ≡ (not closed && isEnd m i) ⌝ }
+    ensures { λ r. ⌜ r ≡ (not closed && isEndAt m i) ⌝ }
 {
     !closed && is_end(m, i)
 }
@@ -99,7 +102,7 @@ fn is_open_end(closed: bool, m: usize, i: usize) -> bool
 // Whether a position of the first `m` is at an end.
 fn is_end(m: usize, i: usize) -> bool
     requires { ⌜ i < m ⌝ }
-    ensures { λ r. ⌜ r ≡ isEnd m i ⌝ }
+    ensures { λ r. ⌜ r ≡ isEndAt m i ⌝ }
 {
     i == 0 || i + 1 == m
 }

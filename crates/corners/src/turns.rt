@@ -1,42 +1,24 @@
 // The turn at one point of a list.
-ghost use Prim.Native.Nat.{_≤_, _<_};
-ghost use mathlib.Core.Bool.{false};
+ghost use Prim.Native.Nat.{_≤_};
 ghost use mathlib.Core.Path.{_≡_};
 ghost use lib.IntN.{pos, natAbs, _+ℤ_, _-ℤ_, _*ℤ_};
 ghost use lib.Signed.{leZ};
-ghost use Rattle.point.specs.Limits.{badPoints};
 ghost use Rattle.util.specs.Area.{crossOf};
 ghost use Rattle.point.specs.inside.Near.{Near};
-ghost use Rattle.corners.specs.Corners.{vector, before, behind, into, outOf, sharp};
+ghost use Rattle.corners.specs.Corners.{vector, sharp, turns};
 ghost use Rattle.corners.specs.inside.Sizes.{Short, Moderate};
 use crate::Pair;
 use point::PointI32;
 
-// Whether the turn at a position of the first `m` points is at least as sharp as the pair says.
-pub(crate) fn is_sharp(points: &[i32], pair: Pair, m: usize, i: usize) -> bool
-    requires { ⌜ (badPoints (now points) ≡ false) × Moderate pair × (i < m) ⌝ }
-    ensures { λ r. ⌜ r ≡ sharp pair (into (now (points .entry)) m i) (outOf (now (points .entry)) m i) ⌝ }
+// Whether the turn at `p` is at least as sharp as the pair says. From an equal point or to one there is none.
+pub(crate) fn turns(pair: Pair, from: PointI32, p: PointI32, to: PointI32) -> bool
+    requires { ⌜ Moderate pair × Near from × Near p × Near to ⌝ }
+    ensures { λ r. ⌜ r ≡ turns pair from p to ⌝ }
 {
-    let at = point::point_at(points, i);
-    let v1 = vector(point::point_at(points, before(m, i)), at);
-    let v2 = vector(at, point::point_at(points, behind(m, i)));
-    sharp(pair, v1, v2)
-}
-
-// The position before `i`: past the first it is the last.
-fn before(m: usize, i: usize) -> usize
-    requires { ⌜ i < m ⌝ }
-    ensures { λ r. ⌜ r ≡ before m i ⌝ }
-{
-    if i == 0 { m - 1 } else { i - 1 }
-}
-
-// The position behind `i`: past the last it is the first.
-fn behind(m: usize, i: usize) -> usize
-    requires { ⌜ i < m ⌝ }
-    ensures { λ r. ⌜ r ≡ behind m i ⌝ }
-{
-    if i + 1 == m { 0 } else { i + 1 }
+    if point::same_point(p, from) || point::same_point(p, to) {
+        return false;
+    }
+    sharp(pair, vector(from, p), vector(p, to))
 }
 
 // The vector from one point to another.

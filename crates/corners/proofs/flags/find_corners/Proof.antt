@@ -62,7 +62,7 @@ module _ (list : List ℤ) (pair : Pair) (closed : Bool) (flags : List ℕ) (man
           done : m ≤ length flags → (last : List ℕ) → last ≡ over (cornersOf list pair closed) flags →
               record { answer = Done m; out = last } ≡ findCornersOf list pair closed flags
           unfolding findCornersOf
-          done h last l = rw (← sm, e, ← sb, f, ne-eqb (length list / 2) 0 some, ← so, not-false ok g, ← em, le-ltb (length flags) m h, l, ← em)
+          done h last l = rw (← sm, e, ← sb, f, ne-eqb (length list / 2) 0 some, ← so, not-false ok g, ← em, le-ltb (length flags) m h, l)
 
 ruleset laws = (not-bad, moderate, too-many, bad-point, too-few, bad-settings, no-room, done, needs)
 

@@ -5,15 +5,15 @@ use native.Mathlib.Numerals.{add-one}
 use lib.Dec.{eqb}
 use borrow.Author.Needs.{needs}
 use borrow.Author.Tests.{eq-eqb, ne-eqb}
-use Rattle.corners.specs.Corners.{isEnd}
+use Rattle.corners.specs.Neighbours.{isEndAt}
 use Rattle.corners.proofs.flags.is_end.Statement.{statement}
 use Rattle.corners.proofs.flags.is_end.Tie as tie
 
 module _ (m i : ℕ) where
-  first : i ≡ 0 → eqb i 0 ≡ isEnd m i
+  first : i ≡ 0 → eqb i 0 ≡ isEndAt m i
   first e = rw (eq-eqb i 0 e)
 
-  others : (i ≡ 0 → ⊥) → eqb (i + 1) m ≡ isEnd m i
+  others : (i ≡ 0 → ⊥) → eqb (i + 1) m ≡ isEndAt m i
   others n = rw (ne-eqb i 0 n, add-one)
 
 ruleset laws = (first, others, needs)
