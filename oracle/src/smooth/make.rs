@@ -28,6 +28,9 @@ fn corners(random: &mut Random, case: &mut Line) {
         let last = values.len() - 2;
         values.copy_within(..2, last);
     }
+    if random.once_in(2) {
+        values = again(random, &values);
+    }
     if random.once_in(16) {
         damage(random, &mut values);
     }
@@ -36,6 +39,49 @@ fn corners(random: &mut Random, case: &mut Line) {
     let enough = seen(values.len() / 2, closed);
     let room = if random.once_in(4) { room(random, enough) } else { enough };
     case.word("corners").number(c).number(s).bool(closed).i32s(&values).number(room);
+}
+
+/// The list with points entered again, or with others in their place, so that many are equal or share a coordinate.
+fn again(random: &mut Random, values: &[i32]) -> Vec<i32> {
+    let mut points: Vec<[i32; 2]> = values.chunks_exact(2).map(|pair| [pair[0], pair[1]]).collect();
+    let Some(&first) = points.first() else { return Vec::new() };
+    let n = points.len();
+    let kind = random.below(8);
+    match kind {
+        // The first is the last again: both sides of where a closed list wraps.
+        0 => (0..random.within(1, 4)).for_each(|_| points.push(first)),
+        1 => points.fill(first),
+        // Two runs, mostly.
+        2 => {
+            let (at, other) = (random.below(n as u64) as usize, random.pick(&points));
+            points[..at].fill(first);
+            points[at..].fill(other);
+        }
+        3 => points[random.below(n as u64) as usize..].fill(first),
+        // Each has a coordinate of the one before.
+        4 => {
+            for i in 1..n {
+                let kept = random.below(2) as usize;
+                points[i][kept] = points[i - 1][kept];
+            }
+        }
+        _ => {}
+    }
+    let last = points.len() - 1;
+    let mut values = Vec::new();
+    for (i, point) in points.into_iter().enumerate() {
+        let repeated = match kind {
+            0 => i == 0,
+            5 => i == 0 || i == last,
+            6 => true,
+            7 => random.once_in(3),
+            _ => false,
+        };
+        let times = if repeated { random.within(1, 4) } else { 1 };
+        values.extend([point].repeat(times as usize).as_flattened());
+    }
+    values.truncate(2 * n.max(4096));
+    values
 }
 
 fn pair(random: &mut Random) -> (i32, i32) {
