@@ -19,6 +19,7 @@ const BAD: [&str; 5] =
 pub fn fixed(cases: &mut Cases) {
     worked(cases);
     corners(cases);
+    repeats(cases);
     short_lists(cases);
     edges(cases);
     halves(cases);
@@ -88,6 +89,70 @@ fn corners(cases: &mut Cases) {
     for room in 0..=6 {
         cases.line(&format!("corners 0 1 1 0,0,4,0,4,4,0,4,0,0 {room}"));
         cases.line(&format!("corners 0 1 0 0,0,4,0,4,4,0,4,0,0 {room}"));
+    }
+}
+
+/// Points entered again. Each list open, and closed: then its last point is not seen.
+fn repeats(cases: &mut Cases) {
+    let [a, b, c, d] = [[0, 0], [4, 0], [4, 4], [0, 4]];
+    let far = [9, -9];
+    let mut lists: Vec<Vec<[i32; 2]>> = vec![
+        // A run of three in the middle: at a right angle, at a gentle turn, straight on, and back.
+        vec![a, b, b, b, c],
+        vec![a, b, b, b, [8, 1]],
+        vec![a, b, b, b, [8, 0]],
+        vec![a, b, b, b, a],
+        // Two runs side by side, and one point twice that is not entered twice in a row.
+        vec![a, b, b, c, c, c, d],
+        vec![a, b, a, b, b, a, c],
+        vec![[0, 0], [3, 4], [3, 4], [0, 0]],
+        vec![[0, 0], [3, 4], [3, 4], [0, 0], [0, 0], [3, 4]],
+        // Neighbours with one coordinate in common, both ways round.
+        vec![a, b, c, [8, 4]],
+        vec![a, d, c, [4, 8]],
+        vec![a, b, c, d, far],
+        vec![a, d, c, b, far],
+        // The last point that is seen of a closed list, or the one that is not, is a repeat.
+        vec![a, b, c, c],
+        vec![a, b, c, c, c],
+        vec![a, b, c, far, far],
+        // At the limits.
+        vec![[-16383, -16383], [16383, 16383], [16383, 16383], [16383, -16383], [-16383, 16383]],
+    ];
+    lists.extend((1..=5).map(|n| vec![[7, 7]; n]));
+    for front in 1..=3 {
+        for end in 1..=3 {
+            let list = |parts: &[&[[i32; 2]]]| parts.concat();
+            let (first, second, last) = (vec![a; front], vec![b; end], vec![a; end]);
+            // Two runs; and the first of them again behind.
+            lists.push(list(&[&first, &second]));
+            lists.push(list(&[&first, &[b, b], &last]));
+            // The run at the front goes on at the end, where a closed list wraps: at a sharp turn, and straight on.
+            // Or it does not.
+            lists.push(list(&[&first, &[b, c], &last, &[far]]));
+            lists.push(list(&[&first, &[b, c, [-4, 4], [-4, 0]], &last, &[far]]));
+            lists.push(list(&[&first, &[c], &second, &[far]]));
+        }
+    }
+    for list in lists {
+        for pair in [(0, 1), (1, 1), (-1, 1)] {
+            corners_of(cases, pair, list.as_flattened());
+        }
+    }
+    // As many as there can be.
+    let run = |n| [7, 7].repeat(n);
+    corners_of(cases, (0, 1), &run(4096));
+    corners_of(cases, (0, 1), &[run(2048), [8, 8].repeat(2048)].concat());
+    corners_of(cases, (0, 1), &[run(2047), [8, 8].repeat(2), run(2047)].concat());
+}
+
+/// The corners of a list, open and closed, with room for them.
+fn corners_of(cases: &mut Cases, (c, s): (i32, i32), values: &[i32]) {
+    for closed in [false, true] {
+        let room = seen(values.len() / 2, closed);
+        cases.case(|case| {
+            case.word("corners").number(c).number(s).bool(closed).i32s(values).number(room);
+        });
     }
 }
 
