@@ -197,6 +197,18 @@ fn subdivision_of_a_square() {
 }
 
 #[test]
+fn pegs_entered_twice() {
+    // "The nearest earlier point that differs": the peg turns as it does when it is entered once.
+    says("smooth", "corners 0 1 0 0,0,4,0,4,0,4,4 4", "0 4 01010101");
+    says("smooth", "corners 0 1 0 0,0,4,0,4,0,8,1 4", "0 4 01000001");
+    // "On an open list the search stops at the ends", which "stay flagged"; closed, it wraps.
+    says("smooth", "corners 0 1 0 0,0,0,0,4,0,4,0 4", "0 4 01000001");
+    says("smooth", "corners 0 1 1 0,0,0,0,4,0,4,0,0,0 4", "0 4 01010101");
+    // "A closed list of equal points has no corners."
+    says("smooth", "corners 0 1 1 7,7,7,7,7,7 2", "0 2 0000");
+}
+
+#[test]
 fn tempting_but_wrong() {
     // A run does not stop at the start: it is passed in the middle of the row's upper edge.
     says("walker", "walk 1 3 1 e0 1 0 0", "9 0 -");
