@@ -7,8 +7,8 @@
 // - Refused: the count is 0, all else that was lent holds what it held. Done: places past the answer do.
 // - The points that a pass answers are points of its list, in their order; marks and flags are 0 or 1; simplify is its
 //   two passes; a zoom by the numbers is what Douglas-Peucker answers; roots are the processor's; an outline begins and
-//   ends at its start and goes along rows and columns; what is written of a chart is read back; and so on, at each call
-//   below.
+//   ends at its start and goes along rows and columns; corners are those of document 02, request 2/13; what is written
+//   of a chart is read back; and so on, at each call below.
 #include <math.h>
 
 #include "edges.h"
@@ -684,6 +684,41 @@ static uint64_t call_subdivide(void) {
                                            REALS(out), room, marks->at, mark_room, COUNT, AT(bool, last));
 }
 
+// Points are entered again: some of the first n take the place of the next, the last that of the first; or one of their
+// coordinates does.
+static void enter_again(size_t n) {
+    uint8_t often = byte();
+    if (often < 96) return;
+    drawn = often;
+    for (size_t k = 0; k < n; k++) {
+        uint32_t r = draw();
+        for (size_t v = 0; v < 2; v++)
+            if (r % 256 < often && r >> (8 + 3 * v) & 7) ints(points)[2 * ((k + 1) % n) + v] = ints(points)[2 * k + v];
+    }
+}
+
+// Where the nearest of the first n points is that differs from the one at k: before it, or behind it. "Wrapping on
+// closed lists after the last is dropped. On an open list the search stops at the ends". If there is none it is k.
+static size_t nearest(size_t n, size_t k, bool behind) {
+    size_t most_steps = flag ? n - 1 : behind ? n - 1 - k : k;
+    for (size_t steps = 1; steps <= most_steps; steps++) {
+        size_t at = (behind ? k + steps : k + n - steps) % n;
+        if (memcmp(ints(points) + 2 * at, ints(points) + 2 * k, 2 * sizeof(int32_t)) != 0) return at;
+    }
+    return k;
+}
+
+// Whether the point at k of the first n is a corner, by documents 01 and 02 (request 2/13).
+static bool is_corner(size_t n, size_t k) {
+    if (!flag && (k == 0 || k == n - 1)) return true;
+    size_t before = nearest(n, k, false), behind = nearest(n, k, true);
+    if (before == k || behind == k) return false;
+    const int32_t *p = ints(points);
+    int64_t x1 = p[2 * k] - p[2 * before], y1 = p[2 * k + 1] - p[2 * before + 1];
+    int64_t x2 = p[2 * behind] - p[2 * k], y2 = p[2 * behind + 1] - p[2 * k + 1];
+    return x * llabs(x1 * y2 - y1 * x2) - y * (x1 * x2 + y1 * y2) >= 0;
+}
+
 static void run_corners(void) {
     lend_points(false);
     size_t n = length / 2;
@@ -692,6 +727,7 @@ static void run_corners(void) {
     x = b < 32 ? some_int() : b % 2 ? 0 : (int16_t)word() % 1002;
     y = b < 32 ? some_int() : b % 4 ? 1 : 1 + word() % 1000;
     size_t asked = flag && n ? n - 1 : n;
+    enter_again(asked);
     mark_room = some_room(asked, 1);
     marks = lend(mark_room, true);
     lend_count();
@@ -701,10 +737,9 @@ static void run_corners(void) {
     applies(10, mark_room < asked);
     if (!is_done(call_corners)) return;
     expect(counted() == asked && is_old_from(marks, asked), "not a flag for each point");
-    for (size_t k = 0; k < asked; k++) {
-        expect(marks->left[k] <= 1, "a flag that is not 0 or 1");
-        if (!flag && (k == 0 || k == n - 1)) expect(marks->left[k] == 1, "an end that is no corner");
-    }
+    for (size_t k = 0; k < asked; k++) expect(marks->left[k] <= 1, "a flag that is not 0 or 1");
+    for (size_t k = 0; k < asked; k += 1 + asked / 512) // of a long list some
+        expect(marks->left[k] == is_corner(asked, k), "a corner that is none, or the other way round");
 }
 
 static void run_subdivide(void) {
