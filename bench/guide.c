@@ -82,14 +82,17 @@ typedef struct {
     int32_t points[2 * MOST];
 } list;
 
-static uint8_t coast[CHART], diamond[CHART];
+static uint8_t coast[CHART], diamond[CHART], bars[CHART];
 
 // What is walked on each chart, and what simplify leaves of it.
 static list outline = {.name = "outline", .closed = true}, simplified = {.name = "outline, simplified", .closed = true},
-            stairs = {.name = "diamond", .closed = true};
+            stairs = {.name = "diamond", .closed = true}, teeth = {.name = "teeth", .closed = true};
 
 static list shore = {.name = "shore"}, collinear = {.name = "collinear"}, equal = {.name = "all equal"},
             zigzag = {.name = "zigzag"}, comb = {.name = "comb"};
+
+// Points entered again, as many as a list may have.
+static list one_run = {.name = "one run", .closed = true}, two_runs = {.name = "two runs", .closed = true};
 
 static double squares[ROOTS];
 
@@ -97,11 +100,18 @@ static void set(uint8_t *chart, int x, int y) {
     chart[y * ROW + x / 8] |= (uint8_t)(0x80 >> x % 8);
 }
 
-// The coast, a ragged island that fills its chart; and the diamond, all of whose edges are stairs of one pixel, which
-// costs some thirty times as much to simplify.
+// Two bars with teeth of one pixel above and below, held together by one of these.
+static bool is_bar(int x, int y) {
+    if (y == 7) return x >= 510;
+    return y < 7 && (y == 3 ? x == 0 : y % 4 == 1 || x % 2 == 0);
+}
+
+// The coast, a ragged island that fills its chart; the diamond, all of whose edges are stairs of one pixel, which
+// costs some thirty times as much to simplify; and the bars.
 static void draw_charts(void) {
     for (int y = 0; y < SIDE; y++)
         for (int x = 0; x < SIDE; x++) {
+            if (is_bar(x, y)) set(bars, x, y);
             int dx = 2 * x - (SIDE - 1), dy = 2 * y - (SIDE - 1);
             if (dx * dx + dy * dy + (7 * x + 13 * y) % 11 * 150 < SIDE * SIDE) set(coast, x, y);
             if (abs(x - 255) + abs(y - 255) <= 254) set(diamond, x, y);
@@ -173,12 +183,18 @@ static void make_lists(void) {
         put(&zigzag, i, i % 2 * i);
         put(&comb, i / 2 * 4, (i + 1) / 2 % 2 * 64);
     }
+    for (int32_t i = 0; i < MOST; i++) {
+        put(&one_run, 7, 7);
+        put(&two_runs, 7 + i / (MOST / 2), 7 + i / (MOST / 2));
+    }
     walk_chart(coast, &outline);
     walk_chart(diamond, &stairs);
+    walk_chart(bars, &teeth);
     expect(sandline_simplify(outline.points, 2 * outline.n, true, simplified.points, 2 * MOST, &n) == SANDLINE_DONE,
            "not simplified", outline.name);
     simplified.n = (uint32_t)n;
-    expect(outline.n == 1389 && simplified.n == 165 && stairs.n == 2037, "another outline than is known", "");
+    expect(outline.n == 1389 && simplified.n == 165 && stairs.n == 2037 && teeth.n == 4095,
+           "another outline than is known", "");
 }
 
 // ---- What calls are lent, and what they answered: numbers or-ed together, counts added up.
@@ -584,6 +600,9 @@ static const row rows[] = {
     {"calls", "limit penalties", &outline, NULL, NULL, limit_penalties, 437},
     {"calls", "find corners", &outline, NULL, NULL, find_corners, 1388},
     {"calls", "find corners", &simplified, NULL, NULL, find_corners, 164},
+    {"calls", "find corners", &teeth, NULL, NULL, find_corners, 4094},
+    {"calls", "find corners", &one_run, NULL, NULL, find_corners, 4095},
+    {"calls", "find corners", &two_runs, NULL, NULL, find_corners, 4095},
     {"calls", "subdivision, one round", &outline, NULL, ready_corners, subdivide, 1834},
     {"calls", "subdivision, one round", &simplified, NULL, ready_corners, subdivide, 277},
     {"calls", "radial pass, the six", &outline, NULL, NULL, six_radial, 4576},

@@ -1,6 +1,6 @@
 //! What is measured: each call on each list, written once for both sides.
 
-use crate::lists::{coast, lists, squares, List};
+use crate::lists::{coast, lists, runs, squares, teeth, List};
 use crate::ours::{corners, Ours};
 use crate::rust::Rust;
 use crate::sides::{Job, Side, Six};
@@ -11,7 +11,7 @@ pub struct Case {
     pub list: String,
     pub points: usize,
     pub ours: Box<dyn Job>,
-    /// The Rust has no numbers.
+    /// The Rust has no numbers, and other corners where points are equal.
     pub rust: Option<Box<dyn Job>>,
 }
 
@@ -44,6 +44,14 @@ pub fn cases(six: Six) -> Vec<Case> {
             cases.push(case(call, list.name.to_string(), list.points.len(), ready));
         }
     }
+    let outline = points(&mut *Rust.walk(&teeth()));
+    let outline = List { name: "teeth", points: outline, closed: true };
+    let [equal, two_runs] = runs();
+    let corners = |list: &List| {
+        let ready = |side: &dyn Side| Some(side.find_corners(list));
+        case("find corners", list.name.to_string(), list.points.len(), ready)
+    };
+    cases.extend([corners(&outline), corners(&equal), Case { rust: None, ..corners(&two_runs) }]);
     let squares = squares(4096);
     let doubles = "doubles of all sizes".to_string();
     cases.push(case("root", doubles, squares.len(), |side| Some(side.roots(&squares))));

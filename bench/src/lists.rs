@@ -30,18 +30,41 @@ pub fn lists() -> Vec<List> {
     ]
 }
 
+/// Points entered again, as many as a list may have: one run of them, and two.
+pub fn runs() -> [List; 2] {
+    let two = [[[7, 7]; 2048], [[8, 8]; 2048]].concat();
+    let of = |name, points| List { name, points, closed: true };
+    [of("one run", vec![[7, 7]; 4096]), of("two runs", two)]
+}
+
 /// A ragged island that fills a chart of 512 by 512.
 pub fn coast() -> Chart {
-    let side = 512;
-    let is_land = |x: i32, y: i32| {
+    chart(|x, y| {
         let (dx, dy) = (2 * x - 511, 2 * y - 511);
-        dx * dx + dy * dy + (7 * x + 13 * y) % 11 * 150 < side * side
-    };
-    let cells = || (0..side * side).map(|cell| [cell % side, cell / side]);
+        dx * dx + dy * dy + (7 * x + 13 * y) % 11 * 150 < SIDE * SIDE
+    })
+}
+
+/// Two bars with teeth of one pixel above and below, held together by one of these: an outline of 4,095
+/// points.
+pub fn teeth() -> Chart {
+    chart(|x, y| match y {
+        0 | 2 | 4 | 6 => x % 2 == 0,
+        1 | 5 => true,
+        3 => x == 0,
+        7 => x >= 510,
+        _ => false,
+    })
+}
+
+const SIDE: i32 = 512;
+
+fn chart(is_land: impl Fn(i32, i32) -> bool) -> Chart {
+    let cells = || (0..SIDE * SIDE).map(|cell| [cell % SIDE, cell / SIDE]);
     let start = cells().find(|&[x, y]| is_land(x, y)).expect("land");
     let bits: Vec<bool> = cells().map(|[x, y]| is_land(x, y)).collect();
     let byte = |bits: &[bool]| bits.iter().fold(0, |byte, &bit| byte << 1 | u8::from(bit));
-    Chart { side: side as usize, bytes: bits.chunks(8).map(byte).collect(), start }
+    Chart { side: SIDE as usize, bytes: bits.chunks(8).map(byte).collect(), start }
 }
 
 /// A random walk of short steps.

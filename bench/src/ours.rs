@@ -83,6 +83,15 @@ impl Side for Ours {
         job(six_lists(n), run, six_answers)
     }
 
+    fn find_corners(&self, list: &List) -> Box<dyn Job> {
+        let (points, closed) = (list.points.clone(), list.closed);
+        let flags = vec![0; list.points.len() - usize::from(closed)];
+        let run = move |flags: &mut Vec<u8>| {
+            done(sandline::find_corners(&points, PAIR, closed, flags));
+        };
+        job(flags, run, |flags| words(flags))
+    }
+
     fn subdivide(&self, list: &List, corners: &[u8]) -> Box<dyn Job> {
         let points: Vec<PointF64> = list.points.iter().map(|p| p.map(f64::from)).collect();
         let (corners, closed, places) = (corners.to_vec(), list.closed, 2 * list.points.len());
@@ -126,11 +135,12 @@ impl Round {
     }
 }
 
+const PAIR: sandline::Pair = sandline::Pair { c: -1, s: 1 };
+
 /// The corners of a list: turns of 135 degrees and more.
 pub fn corners(list: &List) -> Vec<u8> {
     let mut flags = vec![0; list.points.len() - usize::from(list.closed)];
-    let pair = sandline::Pair { c: -1, s: 1 };
-    done(sandline::find_corners(&list.points, pair, list.closed, &mut flags));
+    done(sandline::find_corners(&list.points, PAIR, list.closed, &mut flags));
     flags
 }
 

@@ -48,6 +48,14 @@ impl Side for Rust {
         self.douglas_peucker(list, squared)
     }
 
+    fn find_corners(&self, list: &List) -> Box<dyn Job> {
+        let (path, closed) = (PathI32::from_points(points(list)), list.closed);
+        let angle = 0.75 * std::f64::consts::PI;
+        let run = move |out: &mut _| *out = SubdivideSmooth::find_corners(&path, angle, closed);
+        let flag = |&corner: &bool| u8::from(corner);
+        job(Vec::new(), run, move |out| words(&out.iter().map(flag).collect::<Vec<u8>>()))
+    }
+
     fn subdivide(&self, list: &List, corners: &[u8]) -> Box<dyn Job> {
         let double = |p: &[i32; 2]| PointF64::new(f64::from(p[0]), f64::from(p[1]));
         let path = PathF64::from_points(list.points.iter().map(double).collect());

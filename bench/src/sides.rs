@@ -22,6 +22,8 @@ pub trait Side {
     fn zooms(&self, list: &List, squared: Six) -> Option<Box<dyn Job>>;
     /// The same, and the numbers first. The Rust runs Douglas-Peucker six times.
     fn numbers_and_zooms(&self, list: &List, squared: Six) -> Box<dyn Job>;
+    /// Turns of 135 degrees and more.
+    fn find_corners(&self, list: &List) -> Box<dyn Job>;
     /// One round, of corners that are handed in.
     fn subdivide(&self, list: &List, corners: &[u8]) -> Box<dyn Job>;
     fn roots(&self, squares: &[f64]) -> Box<dyn Job>;
