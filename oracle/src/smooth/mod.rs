@@ -1,5 +1,5 @@
-//! Answers for the crate `smooth`: one round of subdivision by the Rust, and corners by document 01's
-//! exact rule, held against the Rust's angles.
+//! Answers for the crate `smooth`: one round of subdivision by the Rust, and corners by the exact rule of
+//! documents 01 and 02, held against the Rust's angles.
 
 mod corners;
 pub mod fixed;
