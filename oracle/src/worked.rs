@@ -265,8 +265,8 @@ fn pictures_are_surveyed() {
 /// Every row that files are counted under is a row of docs/DIFFERENCES.md.
 #[test]
 fn rows_are_written_down() {
-    let text = include_str!("../../docs/DIFFERENCES.md");
-    for row in pbm::netpbm::ROWS {
-        assert!(text.contains(&format!("\n| {row} | ")), "no row '{row}'");
+    let text = include_str!("../../docs/DIFFERENCES.md").to_lowercase();
+    for row in pbm::netpbm::ROWS.map(str::to_lowercase) {
+        assert!(text.contains(&format!("\n- **{row}.** ")), "nothing about '{row}'");
     }
 }
