@@ -12,6 +12,9 @@ use Rattle.laws.specs.If.{if_then_else_}
 use Rattle.point.specs.declared.PointI32.{PointI32}
 use Rattle.point.specs.Points.{count, points, pointAt, samePoint}
 use Rattle.point.proofs.Flat.{length-points, points-at}
+use Rattle.point.specs.Limits.{badPoints}
+use Rattle.point.specs.inside.Near.{Near}
+use Rattle.point.proofs.Near.{limit-x, limit-y}
 use Rattle.point.proofs.SamePoint.{test-same}
 use Rattle.corners.specs.Corners.{firstOther, nearest}
 use Rattle.corners.specs.inside.Places.{FirstOther}
@@ -110,3 +113,7 @@ module _ (list : List ℤ) where
           up-to-it
           ∙ ap (λ (n : ℕ). firstOther p (slice n t (points list) ++ wrap)) e
           ∙ ap (λ (l : List PointI32). firstOther p (l ++ wrap)) (slice-empty t (points list))
+
+-- a point of a list that is not refused is within the limits
+pub near-at : (list : List ℤ) → badPoints list ≡ false → (p : PointI32) (k : ℕ) → p ≡ pointAt list k → Near p
+near-at list good p k e = record { across = limit-x list good p k e; down = limit-y list good p k e }

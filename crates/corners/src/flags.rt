@@ -1,21 +1,26 @@
 // The flags of a list.
-ghost use Prim.Native.Nat.{_≤_, _<_};
+ghost use Prim.Native.Nat.{_-_, _≤_, _<_};
 ghost use mathlib.Core.Bool.{false, not, _&&_, _||_};
 ghost use mathlib.Core.Path.{_≡_};
+ghost use lib.Dec.{eqb};
 ghost use lib.IntN.{pos};
 ghost use lib.ListN.{length};
+ghost use lib.Seq.{sets};
 ghost use lib.Signed.{leZ};
 ghost use Rattle.laws.specs.Lists.{over};
 ghost use Rattle.point.specs.Limits.{badPoints};
-ghost use Rattle.point.specs.Points.{count, seen};
+ghost use Rattle.point.specs.Points.{count, seen, samePoint};
 ghost use Rattle.corners.specs.Corners.{flag, cornersOf};
 ghost use Rattle.corners.specs.Neighbours.{isEndAt};
 ghost use Rattle.corners.specs.Calls.{fair, findCornersOf};
+ghost use Rattle.corners.specs.inside.Places.{sameFlags};
 ghost use Rattle.corners.specs.inside.Sizes.{Moderate};
 use crate::Pair;
-use crate::runs::first_run;
-use crate::runs::run_at;
+use crate::nearest::before_first;
+use crate::nearest::behind_run;
+use crate::turns::turns;
 use point::Answer;
+use point::PointI32;
 use point::Refusal;
 
 // Puts a flag for each point at the start of `flags`, and answers how many those are. Of a closed list
@@ -59,20 +64,47 @@ fn up_to_1000(low: i32, v: i32) -> bool
     low <= v && v <= 1000
 }
 
-// Writes the flags of the first `m` points, run by run of equal ones: a run turns as one point does.
+// Writes the flags of the first `m` points, run by run of equal ones: a run turns as one point does. `p` is the
+// run's, which goes from `i` on, and `from` the nearest before it that differs.
 fn write(points: &[i32], pair: Pair, closed: bool, m: usize, flags: &mut [u8])
     requires { ⌜ (badPoints (now points) ≡ false) × Moderate pair × (m ≡ seen (count (now points)) closed) × (m ≤ length (now flags)) ⌝ }
     ensures { λ _. ⌜ now (flags .exit) ≡ over (cornersOf (now (points .entry)) pair closed) (now (flags .entry)) ⌝ }
 {
-    let mut run = first_run(points, pair, closed, m);
+    let mut p = point::point_at(points, 0);
+    let mut from = before_first(points, closed, m, p);
     let mut i = 0;
-    while i < m {
-        let k = i;
-        i += 1;
-        flags[k] = flag(is_corner(closed, m, k, run.turned));
-        if i == run.next {
-            run = run_at(points, pair, closed, m, i, run.p, run.to);
+    let mut k = 0;
+    while k < m {
+        k += 1;
+        let to = behind_run(points, closed, m, i, k, p);
+        if ends(m, k, p, to) {
+            fill(closed, m, i, k, turns(pair, from, p, to), flags);
+            from = p;
+            p = to;
+            i = k;
         }
+    }
+}
+
+// Whether a run of `p` ends before `k`, of the first `m`: there are no more points, or the next, `to`, differs.
+fn ends(m: usize, k: usize, p: PointI32, to: PointI32) -> bool
+    ensures { λ r. ⌜ r ≡ (eqb k m || not (samePoint p to)) ⌝ }
+{
+    k == m || !point::same_point(p, to)
+}
+
+// Writes the flags from `i` up to `k`, not included, of points that turned or did not. The first is written by
+// itself, as most runs are of one point, and a loop over bytes is made a call.
+fn fill(closed: bool, m: usize, i: usize, k: usize, turned: bool, flags: &mut [u8])
+    requires { ⌜ (i < k) × (k ≤ m) × (m ≤ length (now flags)) ⌝ }
+    ensures { λ _. ⌜ now (flags .exit) ≡ sets (now (flags .entry)) i (sameFlags closed m turned i (k - i)) ⌝ }
+{
+    flags[i] = flag(is_corner(closed, m, i, turned));
+    let mut j = i + 1;
+    while j < k {
+        let at = j;
+        j += 1;
+        flags[at] = flag(is_corner(closed, m, at, turned));
     }
 }
 

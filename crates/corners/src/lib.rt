@@ -5,7 +5,6 @@
 // Lists of points are x, y, x, y; flags are bytes, 1 for a corner and 0 for none.
 mod flags;
 mod nearest;
-mod runs;
 mod turns;
 
 pub use flags::find_corners;

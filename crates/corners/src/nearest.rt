@@ -1,65 +1,66 @@
-// Where the nearest points lie that differ from one of a list, among its first `m`.
-ghost use Prim.Native.Nat.{_-_, _<_, _≤_};
-ghost use mathlib.Core.Bool.{not};
+// The nearest points that differ from those of a run of equal points, `p`, among the first `m` of a list.
+ghost use Prim.Native.Nat.{_<_, _≤_};
+ghost use mathlib.Core.Bool.{false};
 ghost use mathlib.Core.Path.{_≡_};
-ghost use Rattle.point.specs.Points.{count, seen, pointAt, samePoint};
-ghost use Rattle.corners.specs.inside.Places.{Before, Behind, FirstOther};
+ghost use Rattle.point.specs.Limits.{badPoints};
+ghost use Rattle.point.specs.Points.{count, seen, pointAt};
+ghost use Rattle.point.specs.inside.Near.{Near};
+ghost use Rattle.corners.specs.Corners.{nearest};
+ghost use Rattle.corners.specs.inside.Places.{back, ahead, To, FirstOther};
 use point::PointI32;
 
-// The position of the nearest point before the first, `p`, that differs from it: on a closed list the last one
-// that does. Where there is none it is 0.
-pub(crate) fn before_first(points: &[i32], closed: bool, m: usize, p: PointI32) -> usize
-    requires { ⌜ (m ≡ seen (count (now points)) closed) × (p ≡ pointAt (now points) 0) ⌝ }
-    ensures { λ r. ⌜ Before (now (points .entry)) closed m 0 r ⌝ }
+// What the first run turns from: on a closed list the last point that differs from it. Where there is none it is
+// `p`.
+pub(crate) fn before_first(points: &[i32], closed: bool, m: usize, p: PointI32) -> PointI32
+    requires { ⌜ (badPoints (now points) ≡ false) × (m ≡ seen (count (now points)) closed) × (p ≡ pointAt (now points) 0) ⌝ }
+    ensures { λ r. ⌜ Near r × (r ≡ nearest closed p (back (now (points .entry)) 0) (ahead (now (points .entry)) m 0)) ⌝ }
 {
     if !closed {
-        return 0;
+        return p;
     }
     let mut k = m;
     while 1 < k {
         k -= 1;
-        if differs(points, k, p) {
-            return k;
+        let q = point::point_at(points, k);
+        if !point::same_point(p, q) {
+            return q;
         }
     }
-    0
+    p
 }
 
-// The position of the nearest point behind the one at `i`, `p`, that differs from it, on a closed list past the
-// last from the first on. Where there is none it is `i`.
-pub(crate) fn other_behind(points: &[i32], closed: bool, m: usize, i: usize, p: PointI32) -> usize
-    requires { ⌜ (m ≡ seen (count (now points)) closed) × (i ≤ m - 1) × (p ≡ pointAt (now points) i) ⌝ }
-    ensures { λ r. ⌜ (i < m → Behind (now (points .entry)) closed m i r) ⌝ }
+// What a run from `i` up to `k` turns to: the point at `k`. Past the last one it is, on a closed list, the first
+// that differs. Where there is none it is `p`.
+pub(crate) fn behind_run(
+    points: &[i32],
+    closed: bool,
+    m: usize,
+    i: usize,
+    k: usize,
+    p: PointI32,
+) -> PointI32
+    requires { ⌜ (badPoints (now points) ≡ false) × (m ≡ seen (count (now points)) closed) × (i < m) × (p ≡ pointAt (now points) i) ⌝ }
+    ensures { λ r. ⌜ To (now (points .entry)) closed m i k p r ⌝ }
 {
-    let k = first_other(points, p, i + 1, m);
     if k < m {
-        return k;
+        return point::point_at(points, k);
     }
-    if closed {
-        first_other(points, p, 0, i)
-    } else {
-        i
+    if !closed {
+        return p;
     }
+    point::point_at(points, first_other(points, p, i))
 }
 
-// The first position from `from` on and before `end` whose point differs from `p`. Where there is none it is
-// `end`.
-fn first_other(points: &[i32], p: PointI32, from: usize, end: usize) -> usize
-    ensures { λ r. ⌜ FirstOther (now (points .entry)) p from end r ⌝ }
+// The first position before `end` whose point differs from `p`. Where there is none it is `end`.
+fn first_other(points: &[i32], p: PointI32, end: usize) -> usize
+    ensures { λ r. ⌜ FirstOther (now (points .entry)) p 0 end r ⌝ }
 {
-    let mut k = from;
+    let mut k = 0;
     while k < end {
-        if differs(points, k, p) {
+        if !point::same_point(p, point::point_at(points, k)) {
             return k;
         }
         k += 1;
     }
     end
-}
-
-// Whether the point at a position differs from `p`.
-fn differs(points: &[i32], k: usize, p: PointI32) -> bool
-    ensures { λ r. ⌜ r ≡ not (samePoint p (pointAt (now (points .entry)) k)) ⌝ }
-{
-    !point::same_point(p, point::point_at(points, k))
 }

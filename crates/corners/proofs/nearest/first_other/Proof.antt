@@ -1,4 +1,4 @@
--- `first_other` meets its contract. The loop's invariant: all points from `from` on and before `k` are equal to `p`. Assumes nothing.
+-- `first_other` meets its contract. The loop's invariant: all points before `k` are equal to `p`. Assumes nothing.
 use Prim.Native.Nat.{ℕ, _+_, _-_, _<_, _≤_}
 use mathlib.Core.Bool.{Bool, true, false, not}
 use mathlib.Core.List.{List}
@@ -15,45 +15,36 @@ use Rattle.corners.specs.inside.Places.{FirstOther}
 use Rattle.corners.proofs.nearest.first_other.Statement.{statement}
 use Rattle.corners.proofs.nearest.first_other.Tie as tie
 
-abbrev Alike : List ℤ → PointI32 → ℕ → ℕ → Type 0
-Alike list p from k = (j : ℕ) → from ≤ j → j < k → pointAt list j ≡ p
+abbrev Alike : List ℤ → PointI32 → ℕ → Type 0
+Alike list p k = (j : ℕ) → 0 ≤ j → j < k → pointAt list j ≡ p
 
 abbrev Inv-loop : tie.InvT-loop
-Inv-loop points p from end k₀ k = (from ≤ k) × (from ≤ end → k ≤ end) × Alike points p from k
+Inv-loop points p end k₀ k = (k ≤ end) × Alike points p k
 
 abbrev μ-loop : tie.MeasureT-loop
-μ-loop points p from end k₀ k = end - k
+μ-loop points p end k₀ k = end - k
 
-module _ (list : List ℤ) (p : PointI32) (from end : ℕ) where
-  begun : Alike list p from from
+module _ (list : List ℤ) (p : PointI32) (end : ℕ) where
+  begun : Alike list p 0
   begun j h k = absurd (omega arith)
 
-  module _ (k : ℕ) (alike : Alike list p from k) (t : Bool) (says : t ≡ not (samePoint p (pointAt list k))) where
-    onward : t ≡ false → Alike list p from (k + 1)
+  module _ (k : ℕ) (alike : Alike list p k) (q : PointI32) (eq : q ≡ pointAt list k) (t : Bool) (says : t ≡ samePoint p q) where
+    onward : not t ≡ false → Alike list p (k + 1)
     onward e j h l = go (ltb j k) refl
       where
         go : (b : Bool) → ltb j k ≡ b → pointAt list j ≡ p
         go true f = alike j h (ltb-true j k f)
         go false f =
             let n : j ≡ k = omega (arith, ltb-false j k f) in
-            ap (pointAt list) n ∙ sym (same-point p (pointAt list k) (not-false (samePoint p (pointAt list k)) (sym says ∙ e)))
+            ap (pointAt list) n ∙ sym (same-point p q (sym says ∙ not-false t e) ∙ eq)
 
-    here : from ≤ k → k < end → t ≡ true → FirstOther list p from end k
-    here h l e =
-        record {
-          since = λ _. h;
-          up-to = omega arith;
-          alike = alike;
-          other = λ _. not-true (samePoint p (pointAt list k)) (sym says ∙ e);
-        }
+    here : k < end → not t ≡ true → FirstOther list p 0 end k
+    here l e = record { since = λ _. omega arith; up-to = omega arith; alike = alike; other = λ _. ap (samePoint p) (sym eq) ∙ sym says ∙ not-true t e }
 
-  nowhere : (k : ℕ) → from ≤ k → (from ≤ end → k ≤ end) → Alike list p from k → end ≤ k → FirstOther list p from end end
-  nowhere k h g alike l = record { since = λ f. f; up-to = omega arith; alike = λ j f e. alike j f (omega arith); other = λ f. absurd (omega arith) }
+  nowhere : (k : ℕ) → k ≤ end → Alike list p k → end ≤ k → FirstOther list p 0 end end
+  nowhere k h alike l = record { since = λ f. f; up-to = omega arith; alike = λ j f e. alike j f (omega arith); other = λ f. absurd (omega arith) }
 
-  step : (k : ℕ) → k < end → from ≤ end → k + 1 ≤ end
-  step k h f = omega arith
-
-ruleset laws = (begun, onward, here, nowhere, step, needs)
+ruleset laws = (begun, onward, here, nowhere, needs)
 
 pub first-other-spec : {M : Type 1} → statement M
 first-other-spec =
@@ -62,7 +53,8 @@ first-other-spec =
     Inv-loop
     μ-loop
     (λ c. search laws)  -- loop-holds
-    (λ c κs. search laws)  -- differs-requires
+    (λ c κs. search laws)  -- point-at-requires
+    (λ c κs. search laws)  -- same-point-requires
     (λ c. search laws)  -- returns
     (λ c. search laws)  -- add-k
     (λ c. search laws)  -- loop-less
