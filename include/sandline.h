@@ -83,7 +83,7 @@
 #include <stdint.h>
 
 // The version of this header, and of the archive that is made beside it (docs/CHANGES.md).
-#define SANDLINE_VERSION "2.2.0"
+#define SANDLINE_VERSION "3.0.0"
 #define SANDLINE_VERSION_MAJOR 2
 #define SANDLINE_VERSION_MINOR 2
 #define SANDLINE_VERSION_PATCH 0
@@ -278,12 +278,14 @@ uint8_t sandline_simplify(const int32_t *points, uint64_t length, bool clockwise
 // ---- Corners: where an outline turns.
 
 // A flag for each point, 1 for a corner: where the outline turns at least by the angle whose cosine and sine
-// are proportional to c and s, so that 0 and 1 stand for 90 degrees. Exact, in whole numbers. An open list's
-// ends are corners; a closed list's last point is left out, and has no flag. Count is in flags.
+// are proportional to c and s, so that 0 and 1 stand for 90 degrees. Exact, in whole numbers. It turns from the
+// nearest point before that differs to the nearest behind that does, on a closed list also past its ends: so a
+// point that was entered twice is no corner by that alone. Where on a side none differs there is no corner. An
+// open list's ends are corners; a closed list's last point is left out, and has no flag. Count is in flags.
 //
 // c is -1,000 to 1,000, s 1 to 1,000. Room: n flags, n - 1 of a closed list.
 // Refuses too many points (2), a bad list (3), no points (4), a bad pair (7), no room (10).
-// Stack of sandline_find_corners: 56 bytes.
+// Stack of sandline_find_corners: 144 bytes.
 uint8_t sandline_find_corners(const int32_t *points, uint64_t length, int32_t c, int32_t s, bool closed,
                               uint8_t *flags, uint64_t room, uint64_t *count);
 

@@ -359,7 +359,7 @@ static void simplification(void) {
 }
 
 static void corners(void) {
-    const int32_t straight[] = {0, 0, 4, 0, 8, 0};
+    const int32_t straight[] = {0, 0, 4, 0, 8, 0}, twice[] = {0, 0, 4, 0, 4, 0, 8, 0}, equal[] = {7, 7, 7, 7, 7, 7};
 
     put_answer(sandline_find_corners(square, 10, 0, 1, true, flags, 4, &count));
     put_bytes(flags, 5);
@@ -367,6 +367,12 @@ static void corners(void) {
     put_answer(sandline_find_corners(straight, 6, 0, 1, false, flags, 3, &count));
     put_bytes(flags, 4);
     expect("sandline_find_corners", "01", "0 3 1,0,1,238"); // open lists flag both ends
+    put_answer(sandline_find_corners(twice, 8, 0, 1, false, flags, 4, &count));
+    put_bytes(flags, 5);
+    expect("sandline_find_corners", "02", "0 4 1,0,0,1,238"); // 2/13: a peg entered twice
+    put_answer(sandline_find_corners(equal, 6, 0, 1, true, flags, 2, &count));
+    put_bytes(flags, 3);
+    expect("sandline_find_corners", "02", "0 2 0,0,238"); // a closed list of equal points has no corners
     put_answer(sandline_find_corners(square, 10, 0, 0, true, flags, 4, &count));
     put_bytes(flags, 1);
     expect("sandline_find_corners", "refusal", "7 0 238");

@@ -14,8 +14,10 @@ pub struct Pair {
     pub s: i32,
 }
 
-/// Puts a flag for each point at the start of `flags`, 1 for a corner, and answers how many those are. An
-/// open list's ends are corners. A closed list's last point, which repeats the first, has no flag. Exact, in
+/// Puts a flag for each point at the start of `flags`, 1 for a corner, and answers how many those are. A point
+/// turns from the nearest before it that differs to the nearest behind it that does, on a closed list also past
+/// its ends, so one that was entered twice is no corner by that alone; where on a side none differs it is none.
+/// An open list's ends are corners. A closed list's last point, which repeats the first, has no flag. Exact, in
 /// whole numbers.
 ///
 /// Asks for as many flags as it answers.
@@ -26,6 +28,10 @@ pub struct Pair {
 /// let mut flags = [9; 5];
 /// assert_eq!(find_corners(&square, Pair { c: 0, s: 1 }, true, &mut flags), Ok(4));
 /// assert_eq!(flags, [1, 1, 1, 1, 9]);
+///
+/// let straight = [[0, 0], [4, 0], [4, 0], [8, 0]];
+/// assert_eq!(find_corners(&straight, Pair { c: 0, s: 1 }, false, &mut flags), Ok(4));
+/// assert_eq!(flags, [1, 0, 0, 1, 9]);
 /// ```
 pub fn find_corners(
     points: &[Point],

@@ -282,6 +282,13 @@ fn corners() {
     assert_eq!(flags, [1, 1, 1, 1, 9]);
     assert_eq!(find_corners(&[[0, 0], [4, 0], [8, 0]], right, false, &mut flags), Ok(3));
     assert_eq!(flags, [1, 0, 1, 1, 9]);
+    // Document 02, 2/13: pegs entered twice, inside and at both ends; a closed list of equal points.
+    assert_eq!(find_corners(&[[0, 0], [4, 0], [4, 0], [8, 0]], right, false, &mut flags), Ok(4));
+    assert_eq!(flags, [1, 0, 0, 1, 9]);
+    assert_eq!(find_corners(&[[0, 0], [0, 0], [4, 4], [4, 4]], right, false, &mut flags), Ok(4));
+    assert_eq!(flags, [1, 0, 0, 1, 9]);
+    assert_eq!(find_corners(&[[7, 7]; 5], right, true, &mut flags), Ok(4));
+    assert_eq!(flags, [0, 0, 0, 0, 9]);
     for (c, s, refusal) in [(0, 0, true), (-1001, 1, true), (0, 1001, true), (-1000, 1000, false)] {
         let answer = find_corners(&SQUARE, Pair { c, s }, true, &mut flags);
         assert_eq!(answer == Err(Refusal::BadSettings), refusal);
