@@ -94,7 +94,7 @@ fn ends(m: usize, k: usize, p: PointI32, to: PointI32) -> bool
 }
 
 // Writes the flags from `i` up to `k`, not included, of points that turned or did not. The first is written by
-// itself, as most runs are of one point, and a loop over bytes is made a call.
+// itself: most runs are of one point, and the compiler makes a loop over bytes a call of memset.
 fn fill(closed: bool, m: usize, i: usize, k: usize, turned: bool, flags: &mut [u8])
     requires { ⌜ (i < k) × (k ≤ m) × (m ≤ length (now flags)) ⌝ }
     ensures { λ _. ⌜ now (flags .exit) ≡ sets (now (flags .entry)) i (sameFlags closed m turned i (k - i)) ⌝ }

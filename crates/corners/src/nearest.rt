@@ -1,5 +1,5 @@
-// The nearest points that differ from those of a run of equal points, `p`, among the first `m` of a list.
-ghost use Prim.Native.Nat.{_<_, _≤_};
+// The nearest points that differ from a run of equal ones, of `p`, among the first `m` of a list.
+ghost use Prim.Native.Nat.{_<_};
 ghost use mathlib.Core.Bool.{false};
 ghost use mathlib.Core.Path.{_≡_};
 ghost use Rattle.point.specs.Limits.{badPoints};
