@@ -84,8 +84,8 @@
 
 // The version of this header, and of the archive that is made beside it (docs/CHANGES.md).
 #define SANDLINE_VERSION "3.0.0"
-#define SANDLINE_VERSION_MAJOR 2
-#define SANDLINE_VERSION_MINOR 2
+#define SANDLINE_VERSION_MAJOR 3
+#define SANDLINE_VERSION_MINOR 0
 #define SANDLINE_VERSION_PATCH 0
 
 #ifdef __cplusplus
