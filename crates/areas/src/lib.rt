@@ -16,7 +16,7 @@ use point::Refusal;
 pub use totals::together;
 
 // Twice the area of a list, of its kept points, and of all gaps between them.
-#[derive(Drop)]
+#[derive(Clone, Copy)]
 pub struct Areas {
     pub whole: i64,
     pub kept: i64,
@@ -24,14 +24,14 @@ pub struct Areas {
 }
 
 // The area of a list.
-#[derive(Drop)]
+#[derive(Clone, Copy)]
 pub enum Area {
     Twice(i64),
     Refused(Refusal),
 }
 
 // The areas of a list and a choice of its points; or of two such together.
-#[derive(Drop)]
+#[derive(Clone, Copy)]
 pub enum Measured {
     Are(Areas),
     Refused(Refusal),

@@ -63,7 +63,7 @@ fn report(input: &mut [u8], output: &mut [u8])
 }
 
 // How many bytes came, none at the end of the input; or that it cannot be read.
-#[derive(Drop)]
+#[derive(Clone, Copy)]
 pub enum Got {
     Bytes(usize),
     Failed,

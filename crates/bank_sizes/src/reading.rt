@@ -17,7 +17,7 @@ const VALUES: usize = 8190;
 const LONGEST: usize = 32768;
 
 // The squared tolerance that a line says, or that it says none.
-#[derive(Drop)]
+#[derive(Clone, Copy)]
 pub enum Tolerance {
     Is(f64),
     Not,

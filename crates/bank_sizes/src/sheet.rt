@@ -9,7 +9,7 @@ use areas::{Areas, Measured};
 use point::Refusal;
 
 // What is kept in mind from line to line.
-#[derive(Drop)]
+#[derive(Clone, Copy)]
 pub enum Sheet {
     // No line has come: the first is the squared tolerance.
     Blank,
@@ -20,7 +20,7 @@ pub enum Sheet {
 }
 
 // The sheet behind a line, and the place in the output behind what was said.
-#[derive(Drop)]
+#[derive(Clone, Copy)]
 pub struct Said {
     pub sheet: Sheet,
     pub end: usize,

@@ -10,7 +10,7 @@ use lines::{State, Turn};
 const MOST: usize = 8126;
 
 // A turn, and the sheet behind it.
-#[derive(Drop)]
+#[derive(Clone, Copy)]
 pub struct Stepped {
     pub turn: Turn,
     pub sheet: Sheet,

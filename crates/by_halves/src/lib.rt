@@ -2,6 +2,7 @@
 // are those of `sqrt`, bit for bit, in fewer instructions and more stack.
 //
 // Nothing here fails, for any f64.
+#![tactic(auto)]
 ghost use Rattle.std.specs.Prelude.{◌≡◌, ◌^◌, ◌<◌, ◌≤◌};
 ghost use Rattle.std.specs.Float.{binary64};
 ghost use Rattle.sqrt.specs.Root.{root_of, root_bits};

@@ -12,7 +12,7 @@ const HALF: u64 = 0x400_0000;
 const QUARTER: u64 = 0x2000;
 
 // The whole part of a number's root, and what the number has above its square.
-#[derive(Drop)]
+#[derive(Clone, Copy)]
 struct Part {
     root: u64,
     left: u64,

@@ -106,7 +106,7 @@ fn of_outlines(line: &[u8], out: &mut [u8], at: usize) -> usize {
 }
 
 // How many bytes came, none at the end of the input; or that it cannot be read.
-#[derive(Drop)]
+#[derive(Clone, Copy)]
 pub enum Got {
     Bytes(usize),
     Failed,

@@ -9,7 +9,7 @@ use crate::putting::put_kept;
 use crate::reading::{choice_at, room_at};
 use point::Answer;
 
-#[derive(Drop)]
+#[derive(Clone, Copy)]
 enum Call {
     Staircase(bool),
     Penalties,

@@ -1,7 +1,7 @@
 // Integers that 64 bits hold, as a case says them: decimal digits, with a minus sign before them or not.
 use words::Natural;
 
-#[derive(Drop)]
+#[derive(Clone, Copy)]
 pub enum Wide {
     Is(i64),
     Not,

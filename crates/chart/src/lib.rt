@@ -6,6 +6,7 @@
 // do bytes behind the last row (proved in proofs/Padding).
 //
 // Each call is total and writes nothing.
+#![tactic(auto)]
 mod begin;
 mod counting;
 mod lattice;
@@ -21,21 +22,21 @@ pub use pixels::{all_bytes, bad_chart, bad_sides, pixel, row_bytes};
 use point::{PointI32, Refusal};
 
 // The size of a bitmap, in pixels. Taken whole everywhere: it will grow.
-#[derive(Drop)]
+#[derive(Clone, Copy)]
 pub struct Chart {
     pub width: usize,
     pub height: usize,
 }
 
 // How many pixels are set.
-#[derive(Drop)]
+#[derive(Clone, Copy)]
 pub enum Cells {
     Set(usize),
     Refused(Refusal),
 }
 
 // Where a walk may begin.
-#[derive(Drop)]
+#[derive(Clone, Copy)]
 pub enum Start {
     At(PointI32),
     // A blank chart has no such place.

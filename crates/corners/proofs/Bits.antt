@@ -1,10 +1,15 @@
--- A number of the size that a corner is judged by is as small when it is handed on by its bits. Assumes nothing.
+-- Numbers of the sizes that a corner is judged by, handed on by their bits, are their own. Assumes nothing.
 use Prim.Native.Nat.{◌≤◌}
+use mathlib.Core.Path.{◌≡◌}
 use native.Mathlib.Omega.{arith}
 use mir.Syntax.{w64}
 use mir.Val.{of_z, to_z}
+use mir.ValLaws.{to_z-of_z}
 use lib.IntN.{ℤ, nat_abs}
-use Rattle.util.proofs.ByBits.{wide_by_bits}
+use Rattle.laws.proofs.Integers.{sfits_abs}
+
+pub wide_by_bits : (z : ℤ) → nat_abs z ≤ 2147221512000 → to_z w64 (of_z w64 z) ≡ z
+wide_by_bits z h = to_z-of_z w64 z (sfits_abs (omega arith))
 
 pub small_by_bits : (z : ℤ) → nat_abs z ≤ 2147221512 → nat_abs (to_z w64 (of_z w64 z)) ≤ 2147221512
 small_by_bits z h = rw (wide_by_bits z (omega arith)) h

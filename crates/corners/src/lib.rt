@@ -11,7 +11,7 @@ pub use flags::find_corners;
 
 // The angle from which on a turn is a corner: `c` and `s` are proportional to its cosine and sine, so
 // that 0 and 1 stand for 90 degrees.
-#[derive(Drop)]
+#[derive(Clone, Copy)]
 pub struct Pair {
     pub c: i32,
     pub s: i32,

@@ -2,6 +2,7 @@
 use Prim.Native.Nat.{ℕ, ◌*◌, ◌≤◌}
 use mathlib.Core.Bool.{Bool}
 use mathlib.Core.List.{List}
+use mathlib.Core.Option.{Option, some, none}
 use native.Mathlib.Omega.{arith}
 use lib.Ieee.{Float}
 use lib.IntN.{ℤ}
@@ -16,11 +17,12 @@ use Rattle.simplify.specs.Simplify.{simplify_of}
 use Rattle.reduce.specs.Numbers.{numbered_of}
 use Rattle.reduce.specs.Reduce.{reduce_of}
 use Rattle.texts.specs.Put.{Placed, put}
-use Rattle.requests.specs.Frame.{Request, walk, simplify, reduce, numbers, no_frame, request_of}
+use Rattle.words.specs.Bytes.{bytes_of}
+use Rattle.requests.specs.Frame.{Request, walk, simplify, reduce, numbers, no_frame, request_in}
 use Rattle.frames.specs.Room.{room, marks, number_room}
 use Rattle.frames.specs.Replies.{points_text, numbers_text}
 use Rattle.frames.specs.Calls.{walk_reply, simplify_reply, reduce_reply, numbers_reply}
-use Rattle.frames.specs.Answer.{sixteenths, reply_to, answer_to}
+use Rattle.frames.specs.Answer.{sixteenths, reply_to, bytes_reply, answer_to}
 use Rattle.frames.proofs.Parts.{points_short, numbers_short}
 use Rattle.frames.proofs.Room.{walk_counts, simplify_counts, reduce_counts, numbers_counts}
 use Rattle.frames.proofs.replies.put_points.Reads.{Post as PutPoints}
@@ -85,6 +87,11 @@ reply_short (reduce t list) = reduced_short list (sixteenths t)
 reply_short (numbers list) = numbered_short list
 reply_short no_frame = omega arith
 
+bytes_short : (b : Option (List ℕ)) → length (bytes_reply b) ≤ 32768
+unfolding bytes_reply
+bytes_short none = omega arith
+bytes_short (some bytes) = reply_short (request_in bytes)
+
 pub answer_short : (line : List ℕ) → length (answer_to line) ≤ 32768
 unfolding answer_to
-answer_short line = reply_short (request_of line)
+answer_short line = bytes_short (bytes_of line)

@@ -1,35 +1,31 @@
--- A program that answers lines has answered every line that it has got before it reads on, and has said all that it has to say, in order, when it
--- ends; and it ends. What it says to a line has room in the output behind `most` bytes, and its last words have room there and leave it done; a
--- read may bring any number of bytes (specs/Runs.antt). Assumes nothing.
+-- A program that answers lines has answered every line that it has got before it reads on, and every line of its input, in order, when it ends;
+-- and it ends. `answer` is its answer to a line, which has room in the output behind `most` bytes; a read may bring any number of bytes
+-- (specs/Runs.antt). Assumes nothing.
 use Prim.Native.Nat.{ℕ, zero, suc, ◌+◌, ◌*◌, ◌≤◌, ◌<◌, zero-le}
-use mathlib.Core.Bool.{true, false, false≢true}
+use mathlib.Core.Bool.{false, false≢true}
 use mathlib.Core.List.{List, [], ◌++◌}
 use mathlib.Core.Logic.{◌⊎◌, inl, inr, ⊎_elim}
-use mathlib.Core.Option as Option
 use mathlib.Core.Path.{◌≡◌, refl, sym, ap, subst, ◌∙◌}
 use native.Mathlib.Omega.{arith}
 use lib.ListN.{length}
-use Rattle.laws.specs.Outcome.{Outcome}
-use Rattle.lines.specs.Turns.{Program}
-use Rattle.lines.specs.Runs.{Machine, lines_of, whole_lines, said, report, done, step_in, left, after, started}
+use Rattle.lines.specs.Turns.{line}
+use Rattle.lines.specs.Runs.{Machine, lines_of, whole_lines, answers_to, done, step_in, left, after, started}
 use Rattle.lines.specs.declared.turns.State.{State}
 use Rattle.lines.specs.declared.turns.Turn.{Turn}
 use Rattle.lines.specs.declared.turns.Turn.TheVariants.{Line, Write, Read, End}
-use Rattle.lines.proofs.TurnsLeft.{to_say, at_most}
 use Rattle.lines.proofs.Phases as Phases
 use Rattle.lines.proofs.Moves.{Going, Falls}
-use Rattle.lines.proofs.Steps.{Met, met}
+use Rattle.lines.proofs.Steps.{Met, says}
 
-module _ {M : Type 0} (p : Program M) (most : ℕ) (sizes : ℕ → ℕ) (m₀ : M) (input output text : List ℕ) (some : 0 < length input)
-    (small : length input ≤ 18446744073709551615) (room : (m : M) (l : List ℕ) → most + length (p.reply m l).out ≤ length output)
-    (last-room : (m : M) (w : Outcome M (List ℕ)) → p.last m ≡ Option.some w → (length w.out ≤ length output) × (p.over w.answer ≡ true)) where
-  abbrev Goes : ℕ → Machine M → Type 0
-  Goes turns m = Going p most sizes m₀ input output text turns m
+module _ (answer : List ℕ → List ℕ) (most : ℕ) (sizes : ℕ → ℕ) (input output text : List ℕ) (some : 0 < length input)
+    (small : length input ≤ 18446744073709551615) (room : (l : List ℕ) → most + length (line (answer l)) ≤ length output) where
+  abbrev Goes : ℕ → Machine → Type 0
+  Goes turns m = Going answer most sizes input output text turns m
 
-  abbrev turn : Machine M → Turn
-  turn m = (step_in p most sizes m).answer
+  abbrev turn : Machine → Turn
+  turn m = (step_in answer most sizes m).answer
 
-  at_start : Goes (3 * length text + 3) (started m₀ input output text)
+  at_start : Goes (3 * length text + 1) (started input output text)
   at_start =
       record {
         c = [];
@@ -44,26 +40,26 @@ module _ {M : Type 0} (p : Program M) (most : ℕ) (sizes : ℕ → ℕ) (m₀ :
               out_size = refl;
               waits = zero-le;
               all_read = λ o. absurd (false≢true o);
-              phase = Phases.at_first p (length input) m₀ text;
-              nearer = omega (arith, at_most (p.over m₀) (to_say false false 0 (length text)));
+              phase = Phases.at_first answer (length input) text;
+              nearer = omega arith;
             };
       }
 
   -- ---- one turn more
 
-  abbrev onward : Machine M → Machine M
-  onward m = done p most sizes (turn m) (left p most sizes m)
+  abbrev onward : Machine → Machine
+  onward m = done answer most sizes (turn m) (left answer most sizes m)
 
-  module _ (turns : ℕ) (m : Machine M) (g : Goes turns m) where
+  module _ (turns : ℕ) (m : Machine) (g : Goes turns m) where
     abbrev Shows : Turn → Type 0
-    Shows t = Met p most sizes m₀ input output text some small room last-room turns m t (onward m)
+    Shows t = Met answer most sizes input output text some small room turns m t (onward m)
 
     shows : Shows (turn m)
-    shows = met p most sizes m₀ input output text some small room last-room turns m g.c g.u g.over g.long g.between
+    shows = says answer most sizes input output text some small room turns m g.c g.u g.over g.long g.between
 
     -- it stays at its end, or goes on, and less is to be done
     abbrev Moves : Turn → Type 0
-    Moves t = ((t ≡ End) × (onward m ≡ m)) ⊎ Falls p most sizes m₀ input output text turns (onward m)
+    Moves t = ((t ≡ End) × (onward m ≡ m)) ⊎ Falls answer most sizes input output text turns (onward m)
 
     moves : Moves (turn m)
     moves = by (turn m) shows
@@ -74,32 +70,32 @@ module _ {M : Type 0} (p : Program M) (most : ℕ) (sizes : ℕ → ℕ) (m₀ :
         by (Read at next) h = inr h.0
         by End h = inl (refl, h.0)
 
-  stays : (n turns : ℕ) (m : Machine M) → Goes turns m → (k : ℕ) × Goes k (after p most sizes n m)
+  stays : (n turns : ℕ) (m : Machine) → Goes turns m → (k : ℕ) × Goes k (after answer most sizes n m)
   unfolding after
   stays zero turns m g = (turns, g)
   stays (suc n) turns m g =
       ⊎_elim (λ e. stays n turns (onward m) (subst (Goes turns) (sym e.1) g)) (λ f. stays n f.0 (onward m) f.2) (moves turns m g)
 
-  rests : (n : ℕ) (m : Machine M) → onward m ≡ m → after p most sizes n m ≡ m
+  rests : (n : ℕ) (m : Machine) → onward m ≡ m → after answer most sizes n m ≡ m
   unfolding after
   rests zero m e = refl
-  rests (suc n) m e = ap (after p most sizes n) e ∙ rests n m e
+  rests (suc n) m e = ap (after answer most sizes n) e ∙ rests n m e
 
-  ends : (n turns : ℕ) (m : Machine M) → Goes turns m → turns ≤ n → turn (after p most sizes n m) ≡ End
+  ends : (n turns : ℕ) (m : Machine) → Goes turns m → turns ≤ n → turn (after answer most sizes n m) ≡ End
   unfolding after
   ends zero turns m g h = ⊎_elim (λ e. e.0) (λ f. absurd (omega (arith, f.1))) (moves turns m g)
   ends (suc n) turns m g h =
-      ⊎_elim (λ e. ap (λ (k : Machine M). turn (after p most sizes n k)) e.1 ∙ ap turn (rests n m e.1) ∙ e.0)
+      ⊎_elim (λ e. ap (λ (k : Machine). turn (after answer most sizes n k)) e.1 ∙ ap turn (rests n m e.1) ∙ e.0)
       (λ f. ends n f.0 (onward m) f.2 (omega (arith, f.1))) (moves turns m g)
 
   -- ---- the claims, of the machine after `n` turns
 
   module _ (n : ℕ) where
-    abbrev machine : Machine M
-    machine = after p most sizes n (started m₀ input output text)
+    abbrev machine : Machine
+    machine = after answer most sizes n (started input output text)
 
     holds : (k : ℕ) × Goes k machine
-    holds = stays n (3 * length text + 3) (started m₀ input output text) at_start
+    holds = stays n (3 * length text + 1) (started input output text) at_start
 
     shown : (t : Turn) → turn machine ≡ t → Shows holds.0 machine holds.1 t
     shown t e = subst (Shows holds.0 machine holds.1) e (shows holds.0 machine holds.1)
@@ -107,20 +103,20 @@ module _ {M : Type 0} (p : Program M) (most : ℕ) (sizes : ℕ → ℕ) (m₀ :
     -- something was read, and the rest of the text was not
     pub read_so_far : (got : List ℕ) × (text ≡ got ++ machine.text)
     read_so_far =
-        Phases.read_so_far p (length input) m₀ text holds.1.over holds.1.long _ machine.text _ machine.memory holds.1.between.phase
+        Phases.read_so_far answer (length input) text holds.1.over holds.1.long _ machine.text _ holds.1.between.phase
 
-    -- when it is about to read on, it has written what it says to all lines that it has got, and nothing else
-    pub answers_come_before_more_is_read : (at : ℕ) (s : State) (got : List ℕ) → (step_in p most sizes machine).answer ≡ Read at s →
-        text ≡ got ++ machine.text → machine.written ≡ said p (length input) m₀ (whole_lines got)
+    -- when it is about to read on, it has written the answers to all lines that it has got, and nothing else
+    pub answers_come_before_more_is_read : (at : ℕ) (s : State) (got : List ℕ) → (step_in answer most sizes machine).answer ≡ Read at s →
+        text ≡ got ++ machine.text → machine.written ≡ answers_to answer (length input) (whole_lines got)
     answers_come_before_more_is_read at s got e is = (shown (Read at s) e).1 got is
 
-    -- when it ends, it has written all that it says to the lines of its input, its last words with it, and nothing else
-    pub all_is_said : (step_in p most sizes machine).answer ≡ End → machine.written ≡ report p (length input) m₀ (lines_of text)
-    all_is_said e = (shown End e).1
+    -- when it ends, it has written the answers to all lines, and nothing else
+    pub every_line_is_answered : (step_in answer most sizes machine).answer ≡ End → machine.written ≡ answers_to answer (length input) (lines_of text)
+    every_line_is_answered e = (shown End e).1
 
-    -- it ends, after so many turns at most: a read, a line and a write for each byte, a read that brings nothing, and the last words and their write
-    pub it_ends : 3 * length text + 3 ≤ n → (step_in p most sizes machine).answer ≡ End
-    it_ends h = ends n (3 * length text + 3) (started m₀ input output text) at_start h
+    -- it ends, after so many turns at most: a read, a line and a write for each byte, and a read that brings nothing
+    pub it_ends : 3 * length text + 1 ≤ n → (step_in answer most sizes machine).answer ≡ End
+    it_ends h = ends n (3 * length text + 1) (started input output text) at_start h
 
-    pub so_all_is_written : 3 * length text + 3 ≤ n → machine.written ≡ report p (length input) m₀ (lines_of text)
-    so_all_is_written h = all_is_said (it_ends h)
+    pub so_all_is_written : 3 * length text + 1 ≤ n → machine.written ≡ answers_to answer (length input) (lines_of text)
+    so_all_is_written h = every_line_is_answered (it_ends h)

@@ -2,7 +2,6 @@
 use Prim.Native.Nat.{ℕ, ◌+◌, ◌-◌, ◌≤◌, zero-le}
 use mathlib.Core.Bool.{◌||◌}
 use mathlib.Core.List.{List}
-use mathlib.Core.Option.{Option, some, none}
 use mathlib.Core.Path.{◌≡◌, refl, sym, ap, subst, ◌∙◌}
 use native.Mathlib.Omega.{arith}
 use lib.Dec.{ltb, eqb}
@@ -13,7 +12,7 @@ use Rattle.laws.proofs.Determined.{Determined, same}
 use Rattle.laws.proofs.If.{if_cases}
 use Rattle.laws.specs.Outcome.{Outcome}
 use Rattle.lines.specs.Reader.{in_order, newline, line_ends, input_ends, count, refill, took, taken}
-use Rattle.lines.specs.Turns.{Program, Next, Step, begun, fed_state, answered_state, closing, turn_of, next_turn, ends, stepped, step_of}
+use Rattle.lines.specs.Turns.{Next, Step, begun, fed_state, answered_state, turn_of, next_turn, line, stepped, step_of}
 use Rattle.lines.specs.declared.reader.Reader.{Reader}
 use Rattle.lines.specs.declared.reader.Taken.{Taken}
 use Rattle.lines.specs.declared.reader.Taken.TheVariants.{Line, More, End}
@@ -23,7 +22,6 @@ use Rattle.lines.specs.declared.turns.Turn.TheVariants as Turn
 use Rattle.lines.proofs.turns.begin.Reads.{Post as Begin}
 use Rattle.lines.proofs.turns.fed.Reads.{Post as Fed}
 use Rattle.lines.proofs.turns.answered.Reads.{Post as Answered}
-use Rattle.lines.proofs.turns.closing.Reads.{Post as Closing}
 use Rattle.lines.proofs.turns.next.Reads.{Post as NextTurn}
 
 -- Each contract leaves no choice: of equal arguments it allows one result, and one last content of the buffer. `Post` is the contract itself, as
@@ -37,9 +35,6 @@ fed_determined = same (λ x. fed_state x.0 x.1) (λ _ a r s p. p)
 
 pub answered_determined : Determined (State × ℕ) State Answered (λ _ a. (a.0, a.1.0)) (λ _ r s. r)
 answered_determined = same (λ x. answered_state x.0 x.1) (λ _ a r s p. p)
-
-pub closing_determined : Determined State Turn Closing (λ _ a. a.0) (λ _ r s. r)
-closing_determined = same (λ x. closing x) (λ _ a r s p. p)
 
 pub next_determined : Determined (State × ℕ × List ℕ) Next NextTurn (λ _ a. (a.0, a.1.0, a.1.1.0.now)) (λ _ r s. record { answer = r; out = s.1.1.0.now })
 next_determined = same (λ x. next_turn x.0 x.1 x.2) (λ _ a r s p. p)
@@ -127,29 +122,22 @@ Asks (Turn.Write bytes next) n m = (bytes ≤ m) × (next.waiting ≤ m)
 Asks (Turn.Read at next) n m = (at ≤ n) × (next.waiting ≤ m)
 Asks Turn.End n m = Unit {0}
 
-module _ {M : Type 0} (p : Program M) (s : State) (m : M) (most : ℕ) (input output : List ℕ) (fits : s.waiting ≤ length output) where
-  of_last : (w : Option (Outcome M (List ℕ))) (b : List ℕ) → Asks (ends p s m w b output).answer (length input) (length output)
-  of_last none b = tt
-  of_last (some w) b = next_within w.out output s.waiting fits
+module _ (answer : List ℕ → List ℕ) (s : State) (most : ℕ) (input output : List ℕ) (fits : s.waiting ≤ length output) where
+  of_turn : (t : Turn) (b : List ℕ) → InPlace t (length input) most s.waiting → Asks (stepped answer t b output).answer (length input) (length output)
+  of_turn (Turn.Line from to next) b p = next_within (line (answer (take (to - from) (drop from b)))) output next.waiting (omega (arith, p.3))
+  of_turn (Turn.Write bytes next) b p = (omega (arith, p.0), omega (arith, p.1))
+  of_turn (Turn.Read at next) b p = (p.0, omega (arith, p.1))
+  of_turn Turn.End b p = tt
 
-  of_turn : (t : Turn) (b : List ℕ) → InPlace t (length input) most s.waiting → Asks (stepped p s m t b output).answer (length input) (length output)
-  of_turn (Turn.Line from to next) b q = next_within (p.reply m (take (to - from) (drop from b))).out output next.waiting (omega (arith, q.3))
-  of_turn (Turn.Write bytes next) b q = (omega (arith, q.0), omega (arith, q.1))
-  of_turn (Turn.Read at next) b q = (q.0, omega (arith, q.1))
-  of_turn Turn.End b q = of_last (p.last m) b
-
-  pub asks : Asks (step_of p s m most input output).answer (length input) (length output)
+  pub asks : Asks (step_of answer s most input output).answer (length input) (length output)
   unfolding step_of
-  asks =
-      if_cases (λ (k : Step M). Asks k.answer (length input) (length output)) (p.over m) _ _
-      (λ o. if_cases (λ (t : Turn). Asks t (length input) (length output)) (ltb 0 s.waiting) _ _ (λ l. (fits, zero-le)) (λ l. tt))
-      (λ o. of_turn (next_turn s most input).answer (next_turn s most input).out (in_place s most input))
+  asks = of_turn (next_turn s most input).answer (next_turn s most input).out (in_place s most input)
 
-  -- as a program has it at hand: of the turn `t`, what is kept in mind and the buffers' last contents
-  module _ (t : Turn) (m' : M) (in' out' : List ℕ) (next : State) (e : record { answer = t; out = (m', in', out') } ≡ step_of p s m most input output)
+  -- as a program has it at hand: of the turn `t` and the buffers' last contents
+  module _ (t : Turn) (in' out' : List ℕ) (next : State) (e : record { answer = t; out = (in', out') } ≡ step_of answer s most input output)
       (in_kept : length in' ≡ length input) (out-kept : length out' ≡ length output) where
     of_step : (u : Turn) → t ≡ u → Asks u (length in') (length out')
-    of_step u k = rw (in_kept, out-kept) (subst (λ (v : Turn). Asks v (length input) (length output)) (sym (ap (λ (o : Step M). o.answer) e) ∙ k) asks)
+    of_step u k = rw (in_kept, out-kept) (subst (λ (v : Turn). Asks v (length input) (length output)) (sym (ap (λ (o : Step). o.answer) e) ∙ k) asks)
 
     pub answer_waits : (from to : ℕ) → t ≡ Turn.Line from to next → next.waiting ≤ length out'
     answer_waits from to k = of_step (Turn.Line from to next) k

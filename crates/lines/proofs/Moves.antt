@@ -1,6 +1,6 @@
 -- What holds between two turns of a program that answers lines, and that a line, a write and a read keep it and bring the end nearer. Assumes
 -- nothing.
-use Prim.Native.Nat.{ℕ, zero, suc, ◌+◌, ◌-◌, ◌≤◌, ◌<◌, min}
+use Prim.Native.Nat.{ℕ, zero, suc, ◌+◌, ◌*◌, ◌-◌, ◌≤◌, ◌<◌, min}
 use mathlib.Core.Bool.{Bool, true, false}
 use mathlib.Core.List.{List, [], ◌∷◌, ◌++◌, append_assoc, append-nil}
 use mathlib.Core.Path.{◌≡◌, refl, ap}
@@ -11,12 +11,11 @@ use lib.Seq.{length-take-le, take_at}
 use borrow.Author.Tests.{eqb-true}
 use Rattle.texts.specs.Put.{put}
 use Rattle.texts.proofs.Pieces.{put_fits}
-use Rattle.laws.specs.Outcome.{Outcome}
-use Rattle.lines.specs.Turns.{Program, answered_state}
+use Rattle.lines.specs.Turns.{answered_state, line}
 use Rattle.lines.specs.Runs.{Machine, came, done}
 use Rattle.lines.specs.declared.reader.Reader.{Reader}
 use Rattle.lines.specs.declared.turns.Turn.TheVariants.{Read}
-use Rattle.lines.proofs.TurnsLeft.{to_read, to_say, unless_done, turns_to, last_read}
+use Rattle.lines.proofs.TurnsLeft.{to_read, to_drop, turns_to, last_read}
 use Rattle.lines.proofs.Newlines.{Free}
 use Rattle.lines.proofs.Phases as Phases
 use Rattle.lines.proofs.Phases.{Phase}
@@ -28,19 +27,19 @@ rejoined zero l = refl
 rejoined (suc k) [] = refl
 rejoined (suc k) (x ∷ l) = ap (λ (r : List ℕ). x ∷ r) (rejoined k l)
 
-module _ {M : Type 0} (p : Program M) (most : ℕ) (sizes : ℕ → ℕ) (m₀ : M) (input output text : List ℕ) where
-  -- the buffers keep their sizes; what is held is as its reader says; and so much is said
-  pub record Between (c u : List ℕ) (over long : Bool) (turns : ℕ) (m : Machine M) : Type 0 where
+module _ (answer : List ℕ → List ℕ) (most : ℕ) (sizes : ℕ → ℕ) (input output text : List ℕ) where
+  -- the buffers keep their sizes; what is held is as its reader says; and so much is answered
+  pub record Between (c u : List ℕ) (over long : Bool) (turns : ℕ) (m : Machine) : Type 0 where
     pub holds : Holds m.state.reader m.input c u over long
     pub free : Free c
     pub in_size : length m.input ≡ length input
     pub out_size : length m.output ≡ length output
     pub waits : m.state.waiting ≤ length output
     pub all_read : over ≡ true → (m.text ≡ []) × (length (c ++ u) < length input)
-    pub phase : Phase p (length input) m₀ text over long (c ++ u) m.text (m.written ++ take m.state.waiting m.output) m.memory
-    pub nearer : turns_to (p.over m.memory) over long (length (c ++ u)) (length m.text) m.state.waiting ≤ turns
+    pub phase : Phase answer (length input) text over long (c ++ u) m.text (m.written ++ take m.state.waiting m.output)
+    pub nearer : turns_to over long (length (c ++ u)) (length m.text) m.state.waiting ≤ turns
 
-  pub record Going (turns : ℕ) (m : Machine M) : Type 0 where
+  pub record Going (turns : ℕ) (m : Machine) : Type 0 where
     pub c : List ℕ
     pub u : List ℕ
     pub over : Bool
@@ -48,19 +47,18 @@ module _ {M : Type 0} (p : Program M) (most : ℕ) (sizes : ℕ → ℕ) (m₀ :
     pub between : Between c u over long turns m
 
   -- it goes on, and less is to be done
-  abbrev pub Falls : ℕ → Machine M → Type 0
+  abbrev pub Falls : ℕ → Machine → Type 0
   Falls turns m = (n : ℕ) × (n < turns) × Going n m
 
-  falls : (c u : List ℕ) (over long : Bool) (turns n : ℕ) (m : Machine M) → n < turns → Between c u over long n m → Falls turns m
+  falls : (c u : List ℕ) (over long : Bool) (turns n : ℕ) (m : Machine) → n < turns → Between c u over long n m → Falls turns m
   falls c u over long turns n m h b = (n, h, record { c = c; u = u; over = over; long = long; between = b })
 
-  module _ (turns : ℕ) (m : Machine M) (c u : List ℕ) (over long : Bool) (b : Between c u over long turns m) where
+  module _ (turns : ℕ) (m : Machine) (c u : List ℕ) (over long : Bool) (b : Between c u over long turns m) where
     -- what waits is written
     pub wrote : 0 < m.state.waiting →
         Falls turns
         (record {
           state = record { reader = m.state.reader; waiting = 0 };
-          memory = m.memory;
           input = m.input;
           output = m.output;
           written = m.written ++ take m.state.waiting m.output;
@@ -68,7 +66,7 @@ module _ {M : Type 0} (p : Program M) (most : ℕ) (sizes : ℕ → ℕ) (m₀ :
           reads = m.reads;
         })
     wrote h =
-        falls c u over long turns (turns_to (p.over m.memory) over long (length (c ++ u)) (length m.text) 0) _ (omega (arith, b.nearer))
+        falls c u over long turns (turns_to over long (length (c ++ u)) (length m.text) 0) _ (omega (arith, b.nearer))
         (record {
           holds = b.holds;
           free = b.free;
@@ -80,10 +78,10 @@ module _ {M : Type 0} (p : Program M) (most : ℕ) (sizes : ℕ → ℕ) (m₀ :
           nearer = omega arith;
         })
 
-    -- what is said is put behind what waits
-    module _ (said : Outcome M (List ℕ)) (fits : m.state.waiting + length said.out ≤ length output) where
+    -- the answer to `bytes` is put behind what waits
+    module _ (bytes rest : List ℕ) (next : Reader) (fits : m.state.waiting + length (line (answer bytes)) ≤ length output) where
       abbrev reply : List ℕ
-      reply = said.out
+      reply = line (answer bytes)
 
       abbrev put_there : List ℕ
       put_there = take m.state.waiting m.output ++ reply ++ drop (m.state.waiting + length reply) m.output
@@ -109,42 +107,36 @@ module _ {M : Type 0} (p : Program M) (most : ℕ) (sizes : ℕ → ℕ) (m₀ :
             b.out_size,
           )
 
-      -- and `c'` and behind it `u'` are held then
-      pub replied : (c' u' : List ℕ) (long' : Bool) (next : Reader) → Holds next m.input c' u' over long' → Free c' →
-          unless_done (p.over said.answer) (to_say over long' (length (c' ++ u')) (length m.text)) + 2
-          ≤ unless_done (p.over m.memory) (to_say over long (length (c ++ u)) (length m.text)) →
-          length (c' ++ u') ≤ length (c ++ u) →
-          Phase p (length input) m₀ text over long' (c' ++ u') m.text (m.written ++ take m.state.waiting m.output ++ reply) said.answer →
+      pub replied : Holds next m.input [] rest over false → 2 * length rest + 2 ≤ 2 * length (c ++ u) + to_drop long → length rest ≤ length (c ++ u) →
+          Phase answer (length input) text over false rest m.text (m.written ++ take m.state.waiting m.output ++ reply) →
           Falls turns
           (record {
             state = answered_state (record { reader = next; waiting = m.state.waiting }) (put reply m.output m.state.waiting).answer;
-            memory = said.answer;
             input = m.input;
             output = (put reply m.output m.state.waiting).out;
             written = m.written;
             text = m.text;
             reads = m.reads;
           })
-      replied c' u' long' next h f fewer shorter q =
+      replied h fewer shorter p =
           rw there
-          (falls c' u' over long' turns
-          (turns_to (p.over said.answer) over long' (length (c' ++ u')) (length m.text) (m.state.waiting + length reply)) _ (omega (arith, b.nearer))
+          (falls [] rest over false turns (turns_to over false (length rest) (length m.text) (m.state.waiting + length reply)) _ (omega (arith, b.nearer))
           (record {
             holds = h;
-            free = f;
+            free = tt;
             in_size = b.in_size;
             out_size = same_size;
             waits = fits;
             all_read = λ o. ((b.all_read o).0, omega (arith, (b.all_read o).1));
-            phase = rw (now_waits, ← append_assoc m.written (take m.state.waiting m.output) reply) q;
+            phase = rw (now_waits, ← append_assoc m.written (take m.state.waiting m.output) reply) p;
             nearer = omega arith;
           }))
 
   -- more is read, behind what stands at the front
-  module _ (turns : ℕ) (m : Machine M) (c : List ℕ) (over long : Bool) (at : ℕ) (b : Between c [] over long turns m) (on : over ≡ false) (front : m.state.reader.start ≡ 0)
-      (there : at ≡ length c) (fits : at < length input) (idle : m.state.waiting ≡ 0) (goes : p.over m.memory ≡ false) (small : length input ≤ 18446744073709551615) where
+  module _ (turns : ℕ) (m : Machine) (c : List ℕ) (over long : Bool) (at : ℕ) (b : Between c [] over long turns m) (on : over ≡ false) (front : m.state.reader.start ≡ 0)
+      (there : at ≡ length c) (fits : at < length input) (idle : m.state.waiting ≡ 0) (small : length input ≤ 18446744073709551615) where
     abbrev got : List ℕ
-    got = came p most sizes m at
+    got = came answer most sizes m at
 
     got_size : length got ≡ min (min (suc (sizes m.reads)) (length m.input - at)) (length m.text)
     got_size = length-take (min (suc (sizes m.reads)) (length m.input - at)) m.text
@@ -170,20 +162,16 @@ module _ {M : Type 0} (p : Program M) (most : ℕ) (sizes : ℕ → ℕ) (m₀ :
     none_came : eqb (length got) 0 ≡ true → drop (length got) m.text ≡ []
     none_came e = empty (drop (length got) m.text) (omega (arith, eqb-true (length got) 0 e, left_size, got_size, b.in_size))
 
-    came_on : Phase p (length input) m₀ text (eqb (length got) 0) long (c ++ got) (drop (length got) m.text) (m.written ++ []) m.memory
+    came_on : Phase answer (length input) text (eqb (length got) 0) long (c ++ got) (drop (length got) m.text) (m.written ++ [])
     came_on =
-        Phases.read_on p (length input) m₀ text over (eqb (length got) 0) long c got (drop (length got) m.text) (m.written ++ []) m.memory on
+        Phases.read_on answer (length input) text over (eqb (length got) 0) long c got (drop (length got) m.text) (m.written ++ []) on
         (rw (rejoined (min (suc (sizes m.reads)) (length m.input - at)) m.text) (rw (append-nil c, idle) at b.phase))
 
-    fewer : turns_to (p.over m.memory) (eqb (length got) 0) long (length (c ++ got)) (length (drop (length got) m.text)) 0 < turns
-    fewer =
-        rw goes
-        (omega (arith, rw goes at b.nearer, held_size, left_size, got_size, last_read (length got), ap to_read on, length-append c []))
-
-    pub read_more : Falls turns (done p most sizes (Read at (record { reader = m.state.reader; waiting = 0 })) m)
+    pub read_more : Falls turns (done answer most sizes (Read at (record { reader = m.state.reader; waiting = 0 })) m)
     read_more =
         falls c got (eqb (length got) 0) long turns
-        (turns_to (p.over m.memory) (eqb (length got) 0) long (length (c ++ got)) (length (drop (length got) m.text)) 0) _ fewer
+        (turns_to (eqb (length got) 0) long (length (c ++ got)) (length (drop (length got) m.text)) 0) _
+        (omega (arith, b.nearer, held_size, left_size, got_size, last_read (length got), ap to_read on, length-append c []))
         (record {
           holds = fed_holds m.state.reader m.input c got over long at b.holds on front there (omega (arith, got_size, b.in_size)) (omega (arith, b.in_size));
           free = b.free;

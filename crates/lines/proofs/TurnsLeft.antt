@@ -16,23 +16,9 @@ abbrev pub to_drop : Bool → ℕ
 to_drop true = 2
 to_drop false = 0
 
--- a read, a line and a write for each byte that is left; a line and a write for each that is held, and for the last words
-abbrev pub to_say : Bool → Bool → ℕ → ℕ → ℕ
-to_say over long held left = 3 * left + 2 * held + to_drop long + to_read over + 2
-
--- nothing of that once the program is done
-abbrev pub unless_done : Bool → ℕ → ℕ
-unless_done true n = 0
-unless_done false n = n
-
--- and a write of what waits
-abbrev pub turns_to : Bool → Bool → Bool → ℕ → ℕ → ℕ → ℕ
-turns_to done over long held left waiting = unless_done done (to_say over long held left) + min 1 waiting
-
--- which it may be after any line
-pub at_most : (done : Bool) (n : ℕ) → unless_done done n ≤ n
-at_most true n = omega arith
-at_most false n = omega arith
+-- a read, a line and a write for each byte that is left, a line and a write for each that is held, and a write of what waits
+abbrev pub turns_to : Bool → Bool → ℕ → ℕ → ℕ → ℕ
+turns_to over long held left waiting = 3 * left + 2 * held + to_drop long + min 1 waiting + to_read over
 
 -- a read that brings nothing is the last
 pub last_read : (n : ℕ) → to_read (eqb n 0) ≤ n

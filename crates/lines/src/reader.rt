@@ -8,7 +8,7 @@ use words::find;
 // The bytes of a buffer from `start` to `end` were read and are not handed out yet, and those up to
 // `seen` hold no newline. `over`: the input has ended. `long`: inside a line that the buffer cannot
 // hold, which is being passed over.
-#[derive(Drop)]
+#[derive(Clone, Copy)]
 pub struct Reader {
     pub start: usize,
     pub seen: usize,
@@ -17,7 +17,7 @@ pub struct Reader {
     pub long: bool,
 }
 
-#[derive(Drop)]
+#[derive(Clone, Copy)]
 pub enum Taken {
     // A line, without its newline: the bytes of the buffer between two places. There are none of a line
     // that is longer than the buffer.

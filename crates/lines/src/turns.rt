@@ -2,19 +2,19 @@
 // further line, or its output has no room for another answer, it writes what waits; and only when
 // nothing waits it reads on, or ends. So whoever sends a line and waits has its answer.
 ghost use Rattle.std.specs.Prelude.{◌≡◌};
-ghost use Rattle.lines.specs.Turns.{begun, fed_state, answered_state, writes, closing, turn_of, next_turn};
+ghost use Rattle.lines.specs.Turns.{begun, fed_state, answered_state, writes, turn_of, next_turn};
 
 use crate::reader::{Reader, Taken, fed as fed_reader, fresh, take};
 
 // Between two turns: what of the input is held, and how many bytes at the front of the output wait to
 // be written.
-#[derive(Drop)]
+#[derive(Clone, Copy)]
 pub struct State {
     pub reader: Reader,
     pub waiting: usize,
 }
 
-#[derive(Drop)]
+#[derive(Clone, Copy)]
 pub enum Turn {
     // The line between two places of the input is answered behind what waits.
     Line { from: usize, to: usize, next: State },
@@ -91,18 +91,13 @@ fn turn_of(s: State, taken: Taken) -> Turn
                 },
             }
         }
-        Taken::End => closing(s),
+        Taken::End => {
+            if s.waiting == 0 {
+                return Turn::End;
+            }
+            write(s.reader, s.waiting)
+        }
     }
-}
-
-// What is to be done next where nothing is left to say: what waits is written, and then it ends.
-pub fn closing(s: State) -> Turn
-    ensures { result ≡ closing s }
-{
-    if s.waiting == 0 {
-        return Turn::End;
-    }
-    write(s.reader, s.waiting)
 }
 
 fn write(r: Reader, waiting: usize) -> Turn

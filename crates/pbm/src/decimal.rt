@@ -10,7 +10,7 @@ use crate::letters::digit;
 // A size past this is out of range, whatever its other digits are.
 const OVER: usize = 513;
 
-#[derive(Drop)]
+#[derive(Clone, Copy)]
 pub(crate) enum Size {
     Is { value: usize, end: usize },
     Not,

@@ -9,21 +9,21 @@ use crate::letters::{hash, white};
 use chart::Chart;
 
 // A header: of which kind, the sizes, one out of range standing for all such, and the place behind it.
-#[derive(Drop)]
+#[derive(Clone, Copy)]
 pub(crate) struct Header {
     pub plain: bool,
     pub chart: Chart,
     pub end: usize,
 }
 
-#[derive(Drop)]
+#[derive(Clone, Copy)]
 pub(crate) enum Head {
     Is(Header),
     Not,
 }
 
 // A place of the file, or that there is none.
-#[derive(Drop)]
+#[derive(Clone, Copy)]
 pub(crate) enum Place {
     At(usize),
     Nowhere,

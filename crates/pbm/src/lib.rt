@@ -22,7 +22,7 @@ pub use write::write_pbm;
 
 // What reading a picture answers: its chart, with how many bytes of the file its image took, or why there
 // is none.
-#[derive(Drop)]
+#[derive(Clone, Copy)]
 pub enum Picture {
     Read { chart: Chart, bytes: usize },
     Refused(Refusal),

@@ -13,7 +13,7 @@ use crate::raw::all_bytes;
 use chart::Chart;
 
 // Some pixels of one byte, and the place behind the last of them.
-#[derive(Drop)]
+#[derive(Clone, Copy)]
 struct Gathered {
     byte: u8,
     end: usize,

@@ -2,6 +2,7 @@
 // refuses, and lists of points read and written one point at a time.
 //
 // Each call is total and looks at nothing but what it is handed.
+#![tactic(auto)]
 mod flags;
 mod limits;
 mod list;
@@ -18,14 +19,14 @@ pub use refusal::{Answer, Refusal, Verdict};
 pub use vector::same_point;
 
 // A point of a chart or an outline, in pixels, y down.
-#[derive(Drop)]
+#[derive(Clone, Copy)]
 pub struct PointI32 {
     pub x: i32,
     pub y: i32,
 }
 
 // A point with fractions.
-#[derive(Drop)]
+#[derive(Clone, Copy)]
 pub struct PointF64 {
     pub x: f64,
     pub y: f64,

@@ -4,7 +4,7 @@ ghost use Rattle.point.specs.Refusals.{refusal_number, number_of, count_of};
 
 // Why a call refuses. The lowest that applies is given, and no lent buffer is changed. That a chart has no way
 // to go (8), and that a walk is stuck (9), is no refusal: the calls that find it answer it by cases of their own.
-#[derive(Drop)]
+#[derive(Clone, Copy)]
 pub enum Refusal {
     // A chart's size, a spiral's size or a field of its state is out of range, or the pixels are too few.
     BadSize,
@@ -30,14 +30,14 @@ pub enum Refusal {
 
 // The answer of a call that fills a lent buffer: how many points it put there (of a picture, bytes), or why it
 // put none.
-#[derive(Drop)]
+#[derive(Clone, Copy)]
 pub enum Answer {
     Done(usize),
     Refused(Refusal),
 }
 
 // Whether a call goes on, once its tests are made.
-#[derive(Drop)]
+#[derive(Clone, Copy)]
 pub enum Verdict {
     Fine,
     Refused(Refusal),

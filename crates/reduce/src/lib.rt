@@ -26,7 +26,7 @@ pub use zooming::zoom;
 
 // The answer of a call whose work is counted: how many points it put into the lent buffer (of the numbers, how many
 // of these) and how many squared distances were computed for that, or why there are none.
-#[derive(Drop)]
+#[derive(Clone, Copy)]
 pub enum Counted {
     Done { points: usize, distances: usize },
     Refused(Refusal),

@@ -1,9 +1,7 @@
--- Document 01, "Frames": what the bytes of a frame ask for, and a line of digits. "Big-endian; points as i16 x, y."
+-- Document 01, "Frames": what the bytes of a frame ask for. "Big-endian; points as i16 x, y."
 use Rattle.std.specs.Prelude.{ℕ, ◌+◌, ◌*◌, Bool, ◌&&◌, List, [], ◌∷◌, ltb, leb, eqb, ℤ, pos, ◌-ℤ◌, length, get_or, drop}
-use Rattle.std.proofs.Math.Option.{Option, some, none}
 use Rattle.laws.specs.If.{if◌then◌else◌}
 use Rattle.point.specs.declared.PointI32.{PointI32}
-use Rattle.words.specs.Bytes.{bytes_of}
 use Rattle.chart.specs.Pixels.{row_bytes}
 use Rattle.chart.specs.declared.Chart.{Chart}
 
@@ -97,15 +95,3 @@ kind_in kind bytes =
 unfoldable pub request_in : List ℕ → Request
 unfolding kind_in
 request_in bytes = if ltb 16384 (length bytes) then no_frame else kind_in (get_or bytes 0 0) bytes
-
--- ---- a line of hexadecimal digits
-
--- "empty line, odd or non-hex digits (either case is read)" are no frame
-abbrev pub bytes_ask : Option (List ℕ) → Request
-bytes_ask none = no_frame
-bytes_ask (some bytes) = request_in bytes
-
--- what a line asks for, by the bytes that its digits say
-unfoldable pub request_of : List ℕ → Request
-unfolding request_in bytes_of
-request_of line = bytes_ask (bytes_of line)

@@ -15,7 +15,7 @@ pub const MOST: usize = 16384;
 
 // What a frame asks for. Its points are put in a buffer that the caller lends, x and y of each; the
 // last number here says how many values they are.
-#[derive(Drop)]
+#[derive(Clone, Copy)]
 pub enum Asked {
     // Clockwise or not, the chart, the start, and the place in the frame from which on its rows stand.
     Walk(bool, Chart, PointI32, usize),

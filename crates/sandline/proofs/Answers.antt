@@ -3,22 +3,21 @@
 -- what is read and written. Assumes nothing.
 use Prim.Native.Nat.{ℕ, ◌+◌, ◌*◌, ◌≤◌, ◌<◌}
 use mathlib.Core.List.{List, [], ◌∷◌, ◌++◌, flat_map}
-use mathlib.Core.Path.{◌≡◌, refl, sym, ap, ap₂, ◌∙◌}
+use mathlib.Core.Path.{◌≡◌, refl, sym, ap₂, ◌∙◌}
 use native.Mathlib.Omega.{arith}
 use lib.Dec.{ltb}
 use lib.ListN.{length, length-append}
 use borrow.Author.Tests.{ltb-false}
 use Rattle.laws.proofs.If.{if_cases}
-use Rattle.lines.specs.Turns.{line, plain}
-use Rattle.lines.specs.Runs.{Machine, lines_of, whole_lines, or_empty, step_in, after, started}
+use Rattle.lines.specs.Turns.{line}
+use Rattle.lines.specs.Runs.{Machine, lines_of, whole_lines, or_empty, answers_to, step_in, after, started}
 use Rattle.lines.specs.declared.turns.State.{State}
 use Rattle.lines.specs.declared.turns.Turn.{Turn}
 use Rattle.lines.specs.declared.turns.Turn.TheVariants.{Read, End}
 use Rattle.lines.proofs.Answers as Answers
-use Rattle.lines.proofs.Plain as Plain
-use Rattle.frames.specs.Answer.{reply_to, answer_to}
+use Rattle.frames.specs.Answer.{answer_to}
 use Rattle.frames.proofs.Claims.{answer_short}
-use Rattle.requests.proofs.Line.{too_long_is_no_frame, empty_is_no_frame}
+use Rattle.frames.proofs.Lengths.{too_long_is_no_frame, empty_is_no_frame}
 
 -- the answers to some lines, a line each
 abbrev pub answers : List (List ℕ) → List ℕ
@@ -29,10 +28,10 @@ module _ (size : ℕ) (holds : 32768 < size) where
   as_heard : (l : List ℕ) → answer_to (or_empty size l) ≡ answer_to l
   as_heard l =
       if_cases (λ (k : List ℕ). answer_to k ≡ answer_to l) (ltb (length l) size) _ _ (λ t. refl)
-      (λ t. unfold answer_to in ap reply_to (empty_is_no_frame ∙ sym (too_long_is_no_frame l (omega (arith, ltb-false (length l) size t)))))
+      (λ t. empty_is_no_frame ∙ sym (too_long_is_no_frame l (omega (arith, ltb-false (length l) size t))))
 
-  as_answered : (ls : List (List ℕ)) → Plain.answers answer_to size ls ≡ answers ls
-  unfolding flat_map
+  as_answered : (ls : List (List ℕ)) → answers_to answer_to size ls ≡ answers ls
+  unfolding answers_to flat_map
   as_answered [] = refl
   as_answered (l ∷ ls) = ap₂ (λ (a : List ℕ) (b : List ℕ). line a ++ b) (as_heard l) (as_answered ls)
 
@@ -43,37 +42,35 @@ module _ (sizes : ℕ → ℕ) (input output text : List ℕ) (in_size : length 
   small : length input ≤ 18446744073709551615
   small = omega arith
 
-  room : (m : Unit {0}) (l : List ℕ) → 4095 + length (line (answer_to l)) ≤ length output
-  room m l = omega (arith, length-append (answer_to l) (10 ∷ []), answer_short l)
+  room : (l : List ℕ) → 4095 + length (line (answer_to l)) ≤ length output
+  room l = omega (arith, length-append (answer_to l) (10 ∷ []), answer_short l)
 
   fits : 32768 < length input
   fits = omega arith
 
   -- the program after `n` turns, and what it does next
   module _ (n : ℕ) where
-    abbrev machine : Machine (Unit {0})
-    machine = after (plain answer_to) 4095 sizes n (started tt input output text)
+    abbrev machine : Machine
+    machine = after answer_to 4095 sizes n (started input output text)
 
     abbrev turn : Turn
-    turn = (step_in (plain answer_to) 4095 sizes machine).answer
+    turn = (step_in answer_to 4095 sizes machine).answer
 
     -- when it is about to read on, it has written the answers to all lines that it has got, and nothing else
     pub answers_come_before_more_is_read : (at : ℕ) (s : State) (got : List ℕ) → turn ≡ Read at s → text ≡ got ++ machine.text →
         machine.written ≡ answers (whole_lines got)
     answers_come_before_more_is_read at s got e is =
-        Answers.answers_come_before_more_is_read (plain answer_to) 4095 sizes tt input output text some small room (Plain.no_last_words answer_to (length output)) n at s got e is
-        ∙ Plain.plain_said answer_to (length input) (whole_lines got) ∙ as_answered (length input) fits (whole_lines got)
+        Answers.answers_come_before_more_is_read answer_to 4095 sizes input output text some small room n at s got e is ∙ as_answered (length input) fits (whole_lines got)
 
     -- when it ends, it has written the answers to all lines, and nothing else
     pub every_line_is_answered : turn ≡ End → machine.written ≡ answers (lines_of text)
     every_line_is_answered e =
-        Answers.all_is_said (plain answer_to) 4095 sizes tt input output text some small room (Plain.no_last_words answer_to (length output)) n e
-        ∙ Plain.plain_report answer_to (length input) (lines_of text) ∙ as_answered (length input) fits (lines_of text)
+        Answers.every_line_is_answered answer_to 4095 sizes input output text some small room n e ∙ as_answered (length input) fits (lines_of text)
 
     -- it ends, after so many turns at most
-    pub it_ends : 3 * length text + 3 ≤ n → turn ≡ End
-    it_ends h = Answers.it_ends (plain answer_to) 4095 sizes tt input output text some small room (Plain.no_last_words answer_to (length output)) n h
+    pub it_ends : 3 * length text + 1 ≤ n → turn ≡ End
+    it_ends h = Answers.it_ends answer_to 4095 sizes input output text some small room n h
 
   -- `answer_all` counts its turns down from 2^64 - 1: they are enough for a text of 6 * 10^18 bytes
-  pub turns_suffice : length text ≤ 6000000000000000000 → 3 * length text + 3 < 18446744073709551615
+  pub turns_suffice : length text ≤ 6000000000000000000 → 3 * length text + 1 < 18446744073709551615
   turns_suffice h = omega arith

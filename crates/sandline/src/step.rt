@@ -2,7 +2,7 @@
 // waits.
 ghost use Rattle.std.specs.Prelude.{◌≡◌, ◌+◌, ◌≤◌, length};
 ghost use Rattle.texts.specs.Put.{put};
-ghost use Rattle.lines.specs.Turns.{line, plain, step_of};
+ghost use Rattle.lines.specs.Turns.{line, step_of};
 ghost use Rattle.frames.specs.Answer.{answer_to};
 
 use lines::{State, Turn};
@@ -14,8 +14,8 @@ const MOST: usize = 4095;
 // A turn that is a line is answered here, and leaves nothing to do.
 pub fn step(s: State, input: &mut [u8], output: &mut [u8]) -> Turn
     requires { 36864 ≤ length output.old }
-    ensures { record { answer = result; out = (tt, input.new, output.new) }
-        ≡ step_of (plain answer_to) s tt 4095 input.old output.old }
+    ensures { record { answer = result; out = (input.new, output.new) }
+        ≡ step_of answer_to s 4095 input.old output.old }
 {
     let turn = lines::next(s, MOST, input);
     if let Turn::Line { from, to, next } = turn {

@@ -9,7 +9,7 @@ ghost use Rattle.sandline_c.specs.Handed.{fresh_or, spiral_for_c, step_for_c, ad
 use spiral::{Advanced, Fresh, SpiralWalker};
 
 // The number that is answered for a size, and what the caller's struct then holds.
-#[derive(Drop)]
+#[derive(Clone, Copy)]
 struct Begun {
     number: u8,
     spiral: SpiralWalker,

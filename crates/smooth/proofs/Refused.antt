@@ -10,7 +10,7 @@ use lib.Ieee.{Float}
 use lib.ListN.{length}
 use borrow.Author.Tests.{ltb-false, eqb-true, not-false}
 use Rattle.laws.proofs.Joined.{both_false}
-use Rattle.point.specs.Limits.{too_many, bad_points_f64, every, is_flag, bad_flags}
+use Rattle.point.specs.Limits.{too_many, bad_points_f64, every}
 use Rattle.point.specs.Outcomes.{verdict}
 use Rattle.point.proofs.Verdicts.{fine_is, passes}
 use Rattle.point.specs.Refusals.{refuse◌when◌or◌}
@@ -21,7 +21,7 @@ use Rattle.point.specs.Points.{count, seen}
 use Rattle.point.specs.declared.refusal.Verdict.{Verdict}
 use Rattle.point.specs.declared.refusal.Verdict.TheVariants.{Fine}
 use Rattle.point.proofs.Room.{seen_few}
-use Rattle.smooth.specs.Calls.{bad_settings, round_places, round_refusal}
+use Rattle.smooth.specs.Calls.{is_flag, bad_flags, bad_settings, round_places, round_refusal}
 use Rattle.smooth.specs.inside.Parts.{rest_refusal, room_for}
 
 room_is : (closed : Bool) (m n : ℕ) → m ≡ seen n closed → (closed && ltb n 2) ≡ false → room_for closed m ≤ round_places n

@@ -1,11 +1,11 @@
 -- What `subdivide_keep_corners` refuses and answers, and what the two buffers lent to it then hold.
-use Rattle.std.specs.Prelude.{ℕ, ◌-◌, ◌*◌, Bool, not, ◌&&◌, ◌||◌, List, ◌++◌, ltb, pos, Float, length}
+use Rattle.std.specs.Prelude.{ℕ, ◌-◌, ◌*◌, Bool, not, ◌&&◌, ◌||◌, List, ◌++◌, ltb, leb, eqb, pos, Float, length}
 use Rattle.std.proofs.Math.Option.{Option, none}
 use Rattle.std.specs.Float.{binary64}
 use Rattle.std.specs.Float.Ieee.{of_int}
 use Rattle.laws.specs.Lists.{over}
 use Rattle.laws.specs.Outcome.{Outcome}
-use Rattle.point.specs.Limits.{too_many, bad_points_f64, bad_flags, within}
+use Rattle.point.specs.Limits.{too_many, bad_points_f64, within, every}
 use Rattle.point.specs.Outcomes.{outcome}
 use Rattle.point.specs.Points.{count, seen}
 use Rattle.point.specs.Refusals.{refuse◌when◌or◌}
@@ -19,6 +19,13 @@ use Rattle.smooth.specs.declared.Subdivided.{Subdivided}
 use Rattle.smooth.specs.declared.Subdivided.TheVariants.{Done, Refused}
 
 -- ---- what it refuses
+
+abbrev pub is_flag : ℕ → Bool
+is_flag v = leb v 1
+
+-- "flag count not n (open) or n-1 (closed), or a flag not 0 or 1", where m flags are asked for
+abbrev pub bad_flags : ℕ → List ℕ → Bool
+bad_flags m corners = not (eqb (length corners) m) || not (every is_flag corners)
 
 -- "Outset ratio 1 to 1,000; segment length 0 to 65,536"; "out of range or NaN"
 abbrev pub bad_settings : Settings → Bool

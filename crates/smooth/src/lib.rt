@@ -23,7 +23,7 @@ pub use subdivide::subdivide_keep_corners;
 
 // What a round answers: how many points there are and whether it is finished, or why there is none. It is
 // finished where no point entered, or every one left both parts of its segment at most the segment length.
-#[derive(Drop)]
+#[derive(Clone, Copy)]
 pub enum Subdivided {
     Done(usize, bool),
     Refused(Refusal),

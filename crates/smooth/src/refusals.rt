@@ -1,8 +1,9 @@
 // What a round of subdivision refuses: the lowest refusal that applies to its points, its flags, its
 // settings and the room for what it makes.
 ghost use Rattle.std.specs.Prelude.{◌≤◌, ◌&&◌, ◌≡◌, ltb};
+ghost use Rattle.point.specs.Limits.{every};
 ghost use Rattle.point.specs.Outcomes.{verdict};
-ghost use Rattle.smooth.specs.Calls.{bad_settings, too_short, round_refusal};
+ghost use Rattle.smooth.specs.Calls.{is_flag, bad_flags, bad_settings, too_short, round_refusal};
 ghost use Rattle.smooth.specs.inside.Parts.{rest_refusal};
 
 use crate::scheme::Settings;
@@ -45,7 +46,7 @@ fn judge_rest(
     requires { n ≤ 4096 }
     ensures { result ≡ verdict (rest_refusal corners.now settings n m room flags) }
 {
-    if point::bad_flags(corners, m) {
+    if bad_flags(corners, m) {
         return Verdict::Refused(Refusal::BadFlags);
     }
     if bad_settings(settings) {
@@ -62,6 +63,37 @@ fn too_few(n: usize, closed: bool) -> bool
     ensures { result ≡ (closed && ltb n 2) }
 {
     closed && n < 2
+}
+
+// Whether there are not `m` flags, or one is neither 0 nor 1.
+fn bad_flags(corners: &[u8], m: usize) -> bool
+    ensures { result ≡ bad_flags m corners.now }
+{
+    if corners.len() != m {
+        return true;
+    }
+    !all_flags(corners)
+}
+
+// Whether every flag is 0 or 1.
+fn all_flags(corners: &[u8]) -> bool
+    ensures { result ≡ every is_flag corners.now }
+{
+    let mut i = 0;
+    while i < corners.len() {
+        if !is_flag(corners[i]) {
+            return false;
+        }
+        i += 1;
+    }
+    true
+}
+
+// Whether a flag is 0 or 1.
+fn is_flag(v: u8) -> bool
+    ensures { result ≡ is_flag v }
+{
+    v <= 1
 }
 
 // Whether the ratio or the length is out of range, or NaN.

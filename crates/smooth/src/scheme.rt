@@ -11,7 +11,7 @@ ghost use Rattle.smooth.specs.Scheme.{distance, outset, new_point, twice, skippe
 use point::PointF64;
 
 // What a round goes by.
-#[derive(Drop)]
+#[derive(Clone, Copy)]
 pub struct Settings {
     // The outset ratio. Take the middle of a segment, and the middle of the two points around it, the one
     // before and the one behind: a new point lies off the first, away from the second, by the distance
@@ -23,7 +23,7 @@ pub struct Settings {
 
 // What enters a segment: nothing, or a point, and with it whether both new parts are short, at most the
 // segment length.
-#[derive(Drop)]
+#[derive(Clone, Copy)]
 pub enum Entering {
     Nothing,
     Point(PointF64, bool),

@@ -64,7 +64,7 @@ fn round(
 
 // What a turn has done: how many points there are then, and whether the point that entered, if one did,
 // leaves both its segments short.
-#[derive(Drop)]
+#[derive(Clone, Copy)]
 struct Step {
     k: usize,
     settled: bool,

@@ -3,6 +3,7 @@
 //
 // The state goes by value, and is answered anew with each point; `spiral_advance` moves it on in the
 // caller's own struct.
+#![tactic(auto)]
 mod answers;
 mod places;
 mod turning;
@@ -12,7 +13,7 @@ pub use turning::{spiral, spiral_advance, spiral_step};
 
 // Where such a walk stands, and how it goes on: clockwise, y down.
 #[repr(C)]
-#[derive(Drop)]
+#[derive(Clone, Copy)]
 pub struct SpiralWalker {
     // The place that it stands on.
     pub x: i32,
@@ -31,14 +32,14 @@ pub struct SpiralWalker {
 }
 
 // A spiral that has not begun.
-#[derive(Drop)]
+#[derive(Clone, Copy)]
 pub enum Fresh {
     Ready(SpiralWalker),
     Refused(Refusal),
 }
 
 // What a step of a spiral answers: the point that it stood on, with the next state, or none.
-#[derive(Drop)]
+#[derive(Clone, Copy)]
 pub enum Turn {
     At(PointI32, SpiralWalker),
     End,
@@ -46,7 +47,7 @@ pub enum Turn {
 }
 
 // What a step in the caller's own struct answers: the point that the spiral stood on, or none.
-#[derive(Drop)]
+#[derive(Clone, Copy)]
 pub enum Advanced {
     At(PointI32),
     End,
@@ -54,7 +55,7 @@ pub enum Advanced {
 }
 
 // That answer, with the state that the struct holds afterwards.
-#[derive(Drop)]
+#[derive(Clone, Copy)]
 pub struct AdvancedOutcome {
     pub answer: Advanced,
     pub spiral: SpiralWalker,

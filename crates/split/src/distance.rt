@@ -6,7 +6,7 @@ ghost use Rattle.split.specs.Distance.{place_of, segment_of, has_length, nearest
 use point::{PointF64, PointI32};
 
 // A segment from (x, y) to (x2, y2), as doubles: what it spans, and the square of its length.
-#[derive(Drop)]
+#[derive(Clone, Copy)]
 pub struct Segment {
     x: f64,
     y: f64,

@@ -9,7 +9,7 @@ use crate::distance::{Segment, between, get_sq_seg_dist};
 use point::PointI32;
 
 // A position of a list, and the square of its point's distance from a segment.
-#[derive(Drop)]
+#[derive(Clone, Copy)]
 pub struct Far {
     pub index: usize,
     pub distance: f64,

@@ -9,6 +9,7 @@
 // of a span, so the stack grows with the depth of the tree: at most as many levels as there are points less one,
 // 4,095 for 4,096 points. `mark_waiting` and `number_waiting` keep the parts that wait in a list of twelve, in a
 // fixed stack, and answer how many distances they computed.
+#![tactic(auto)]
 mod distance;
 mod farthest;
 mod marks;

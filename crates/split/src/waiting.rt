@@ -17,7 +17,7 @@ use crate::marks::clear;
 use crate::numbers::{fill, least};
 
 // The spans that wait: where each begins and ends, and how many there are.
-#[derive(Drop)]
+#[derive(Clone, Copy)]
 struct Waiting {
     first: [usize; 12],
     last: [usize; 12],
@@ -188,7 +188,7 @@ fn one_more(waiting: usize) -> usize
 }
 
 // The two parts of a span: the one that is at hand next, from `first` to `last`, and the one that waits.
-#[derive(Drop)]
+#[derive(Clone, Copy)]
 struct Parts {
     first: usize,
     last: usize,

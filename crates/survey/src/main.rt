@@ -54,7 +54,7 @@ fn survey(input: &mut [u8], output: &mut [u8])
 }
 
 // How many bytes of the input are held, and whether more may come; or that it cannot be read.
-#[derive(Drop)]
+#[derive(Clone, Copy)]
 pub enum Got {
     Held { bytes: usize, more: bool },
     Failed,

@@ -5,7 +5,7 @@ ghost use Rattle.survey.specs.Survey.{step_of};
 use crate::answer::{put_lines, put_refusal};
 use pbm::Picture;
 
-#[derive(Drop)]
+#[derive(Clone, Copy)]
 pub enum Turn {
     // More of the input is read.
     Read,

@@ -2,6 +2,7 @@
 // pictures and the programs, which write their answers by it.
 //
 // Nothing fails: what does not fit is not written.
+#![tactic(auto)]
 mod decimal;
 mod glyphs;
 mod put;

@@ -2,6 +2,7 @@
 //
 // The calls refuse a coordinate out of range. `cross`, `middle` and `length`, on which other crates build,
 // take any.
+#![tactic(auto)]
 mod area;
 mod crossing;
 mod lengths;
@@ -17,14 +18,14 @@ use point::{PointF64, Refusal};
 pub use ratios::Intersection;
 
 // The midpoint of two points.
-#[derive(Drop)]
+#[derive(Clone, Copy)]
 pub enum MidPoint {
     At(PointF64),
     Refused(Refusal),
 }
 
 // The length of a vector.
-#[derive(Drop)]
+#[derive(Clone, Copy)]
 pub enum Measure {
     Is(f64),
     Refused(Refusal),
@@ -55,7 +56,7 @@ impl Measure {
 }
 
 // The signed area of three points.
-#[derive(Drop)]
+#[derive(Clone, Copy)]
 pub enum Signed {
     Area(i32),
     Refused(Refusal),

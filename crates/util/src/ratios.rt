@@ -6,7 +6,7 @@ ghost use Rattle.util.specs.Ratios.{off, outside_of, inside_of, coincide_of};
 use point::{PointF64, Refusal};
 
 // Where two lines cross.
-#[derive(Drop)]
+#[derive(Clone, Copy)]
 pub enum Intersection {
     Parallel,
     // The midpoint of the first line.

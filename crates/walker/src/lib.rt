@@ -13,7 +13,7 @@ pub use course::walk;
 use point::Refusal;
 
 // What a walk answers: how many points its outline has, or why there is none.
-#[derive(Drop)]
+#[derive(Clone, Copy)]
 pub enum Walked {
     Done(usize),
     // No direction at the start is an exit.

@@ -10,7 +10,7 @@ use chart::Chart;
 use point::PointI32;
 
 // Where a walk stands, the exit that it takes from there, and how many steps it has made.
-#[derive(Drop)]
+#[derive(Clone, Copy)]
 pub(crate) struct Place {
     pub x: i32,
     pub y: i32,

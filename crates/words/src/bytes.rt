@@ -10,7 +10,7 @@ ghost use Rattle.words.specs.inside.Bytes.{count_of, laid, Room};
 use crate::digits::digit;
 
 // How many values were read; or that one of them is no value, or that they do not fit.
-#[derive(Drop)]
+#[derive(Clone, Copy)]
 pub enum Read {
     Is(usize),
     Not,

@@ -5,7 +5,7 @@ ghost use Rattle.words.specs.Decimal.{natural_of, from_zero, below_zero, integer
 use crate::digits::digit;
 
 // A number from zero on, or that the word says none.
-#[derive(Drop)]
+#[derive(Clone, Copy)]
 pub enum Natural {
     Is(u64),
     Not,
@@ -35,7 +35,7 @@ pub fn read_natural(word: &[u8]) -> Natural
 }
 
 // A number below zero or not, or that the word says none.
-#[derive(Drop)]
+#[derive(Clone, Copy)]
 pub enum Integer {
     Is(i32),
     Not,

@@ -5,7 +5,7 @@ ghost use Rattle.words.specs.Hexadecimal.{hex_of, pattern_of};
 use crate::digits::digit;
 
 // The number, or that the word says none.
-#[derive(Drop)]
+#[derive(Clone, Copy)]
 pub enum Hex {
     Is(u64),
     Not,

@@ -24,6 +24,6 @@ pub from_bits_spec : {M : Type 1} → statement M
 from_bits_spec =
     tie.close
     (tie.spec
-    (λ c. search laws)  -- returns
-    (λ c. search laws)  -- float-from-bits-result
-    (λ c. search laws))  -- returns_2
+    (λ c. search laws)  -- returns-then-b-gt-INFINITY
+    (λ c. search laws)  -- float_from_bits-result
+    (λ c. search laws))  -- returns

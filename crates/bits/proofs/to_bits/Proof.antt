@@ -24,6 +24,6 @@ pub to_bits_spec : {M : Type 1} → statement M
 to_bits_spec =
     tie.close
     (tie.spec
-    (λ c. search laws)  -- returns
-    (λ c. search laws)  -- float-to-bits-result
-    (λ c. search laws))  -- returns_2
+    (λ c. search laws)  -- returns-then-x
+    (λ c. search laws)  -- float_to_bits-result
+    (λ c. search laws))  -- returns

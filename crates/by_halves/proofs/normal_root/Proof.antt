@@ -31,10 +31,10 @@ pub normal_root_spec : {M : Type 1} → statement M
 normal_root_spec =
     tie.close
     (tie.spec
-    (λ c. search rules)  -- add-e
-    (λ c. search rules)  -- mul-result
-    (λ c. search rules)  -- add-rounded-root
-    (λ c. search rules)  -- shl-rounded-root
-    (λ c κs. search laws)  -- rounded-root-requires
-    (λ c. search laws)  -- add-result
+    (λ c. search rules)  -- overflow_add-e
+    (λ c. search rules)  -- overflow_mul-result
+    (λ c. search rules)  -- overflow_add-b
+    (λ c. search rules)  -- overflow_shl-b
+    (λ c κs. search laws)  -- rounded_root-requires
+    (λ c. search laws)  -- overflow_add-result
     (λ c. search laws))  -- returns

@@ -31,10 +31,10 @@ pub sqrt_spec : {M : Type 1} → statement M
 sqrt_spec =
     tie.close
     (tie.spec
-    (λ c κs. search laws)  -- to-bits-requires
-    (λ c. search laws)  -- returns
+    (λ c κs. search laws)  -- to_bits-b-requires
+    (λ c. search laws)  -- returns-then-b-eq0
     (λ c κs. search laws)  -- sqrt-requires
-    (λ c. search laws)  -- returns_2
-    (λ c κs. search laws)  -- normal-root-requires
-    (λ c κs. search laws)  -- from-bits-requires
-    (λ c. search laws))  -- returns_3
+    (λ c. search laws)  -- returns-then-b
+    (λ c κs. search laws)  -- normal_root-requires
+    (λ c κs. search laws)  -- from_bits-requires
+    (λ c. search laws))  -- returns

@@ -9,8 +9,7 @@ use Rattle.point.specs.declared.refusal.Refusal.TheVariants.{BadFlags, BadSettin
 use Rattle.smooth.specs.Places.{place_at}
 use Rattle.smooth.specs.Scheme.{placed}
 use Rattle.smooth.specs.Segments.{entering_behind}
-use Rattle.point.specs.Limits.{bad_flags}
-use Rattle.smooth.specs.Calls.{bad_settings, too_short}
+use Rattle.smooth.specs.Calls.{bad_flags, bad_settings, too_short}
 use Rattle.smooth.specs.declared.scheme.Settings.{Settings}
 use Rattle.smooth.specs.declared.scheme.Entering.{Entering}
 use Rattle.smooth.specs.declared.scheme.Entering.TheVariants.{Nothing, Point}

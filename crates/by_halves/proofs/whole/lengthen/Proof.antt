@@ -57,15 +57,15 @@ pub lengthen_spec : {M : Type 1} → statement M
 lengthen_spec =
     tie.close
     (tie.spec
-    (λ c. search laws)  -- mul-rest
-    (λ c. search laws)  -- add-rest
-    (λ c. search laws)  -- mul-twice
-    (λ c. search laws)  -- div-digit
-    (λ c. search laws)  -- mul-lowered
-    (λ c. search laws)  -- add-lowered
-    (λ c. search laws)  -- rem-lowered
-    (λ c. search laws)  -- mul-lowered-2
-    (λ c. search laws)  -- add-lowered-2
-    (λ c. search laws)  -- mul-lowered-3
+    (λ c. search laws)  -- overflow_mul-rest
+    (λ c. search laws)  -- overflow_add-rest
+    (λ c. search laws)  -- overflow_mul-twice
+    (λ c. search laws)  -- nonzero_div-digit
+    (λ c. search laws)  -- overflow_mul-found
+    (λ c. search laws)  -- overflow_add-found
+    (λ c. search laws)  -- nonzero_rem-rest
+    (λ c. search laws)  -- overflow_mul-rest-2
+    (λ c. search laws)  -- overflow_add-rest-2
+    (λ c. search laws)  -- overflow_mul-digit
     (λ c κs. search laws)  -- lowered-requires
     (λ c. search laws))  -- returns

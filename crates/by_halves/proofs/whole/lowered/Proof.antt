@@ -10,10 +10,10 @@ pub lowered_spec : {M : Type 1} → statement M
 lowered_spec =
     tie.close
     (tie.spec
-    (λ c. search laws)  -- sub-t6
-    (λ c. search laws)  -- mul-t7
-    (λ c. search laws)  -- sub-t8
-    (λ c. search laws)  -- add-t9
-    (λ c. search laws)  -- sub-t10
-    (λ c. search laws)  -- returns
-    (λ c. search laws))  -- returns_2
+    (λ c. search laws)  -- overflow_sub-result
+    (λ c. search laws)  -- overflow_mul-result
+    (λ c. search laws)  -- overflow_sub-result-then-left-square
+    (λ c. search laws)  -- overflow_add-result
+    (λ c. search laws)  -- overflow_sub-result-then-left-square-2
+    (λ c. search laws)  -- returns-then-left-square
+    (λ c. search laws))  -- returns-else-left-square

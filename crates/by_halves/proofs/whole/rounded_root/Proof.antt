@@ -56,9 +56,9 @@ pub rounded_root_spec : {M : Type 1} → statement M
 rounded_root_spec =
     tie.close
     (tie.spec
-    (λ c κs. search laws)  -- whole-root-requires
-    (λ c κs. search laws)  -- lengthen-requires
-    (λ c κs. search laws)  -- lengthen-requires-2
-    (λ c. search laws)  -- add-result
-    (λ c. search laws)  -- returns
-    (λ c. search laws))  -- returns_2
+    (λ c κs. search laws)  -- whole_root-quarter-requires
+    (λ c κs. search laws)  -- lengthen-half-requires
+    (λ c κs. search laws)  -- lengthen-all-requires
+    (λ c. search laws)  -- overflow_add-result
+    (λ c. search laws)  -- returns-then-root-all
+    (λ c. search laws))  -- returns-else-root-all

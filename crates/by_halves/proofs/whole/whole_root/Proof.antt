@@ -12,11 +12,11 @@ use Rattle.sqrt.proofs.whole.BitByBit.{bit_set, bit_clear}
 use Rattle.by_halves.proofs.whole.whole_root.Statement.{statement}
 use Rattle.by_halves.proofs.whole.whole_root.Tie as tie
 
-abbrev invariant-loop : tie.invariant-loop
-invariant-loop n root₀ left₀ k₀ root left k = (k ≤ 13) × (root + 2 ^ k ≤ 2 ^ 14) × Found n root left (2 ^ k)
+abbrev invariant-loop-k : tie.invariant-loop-k
+invariant-loop-k n root₀ left₀ k₀ root left k = (k ≤ 13) × (root + 2 ^ k ≤ 2 ^ 14) × Found n root left (2 ^ k)
 
-abbrev decreases-loop : tie.decreases-loop
-decreases-loop n root₀ left₀ k₀ root left k = k
+abbrev decreases-loop-k : tie.decreases-loop-k
+decreases-loop-k n root₀ left₀ k₀ root left k = k
 
 -- before the first turn: the leading bit is set
 start : (n : ℕ) → 2 ^ 26 ≤ n → n < 2 ^ 28 → Found n (2 ^ 13) (n - 2 ^ 26) (2 ^ 13)
@@ -70,19 +70,19 @@ pub whole_root_spec : {M : Type 1} → statement M
 whole_root_spec =
     tie.close
     (tie.spec
-    invariant-loop
-    decreases-loop
-    (λ c. search laws)  -- sub-left
-    (λ c. search laws)  -- loop-holds
-    (λ c. search laws)  -- sub-k
-    (λ c. search laws)  -- cast-bit
-    (λ c. search laws)  -- shl-bit
-    (λ c. search laws)  -- mul-next
-    (λ c. search laws)  -- add-next
-    (λ c. search laws)  -- mul-next-2
-    (λ c. search laws)  -- add-root
-    (λ c. search laws)  -- loop-less
-    (λ c. search laws)  -- loop-again
-    (λ c. search laws)  -- loop-less-2
-    (λ c. search laws)  -- loop_again_2
+    invariant-loop-k
+    decreases-loop-k
+    (λ c. search laws)  -- overflow_sub-left
+    (λ c. search laws)  -- loop-k-init
+    (λ c. search laws)  -- overflow_sub-k
+    (λ c. search laws)  -- overflow_cast-bit
+    (λ c. search laws)  -- overflow_shl-bit
+    (λ c. search laws)  -- overflow_mul-next
+    (λ c. search laws)  -- overflow_add-next
+    (λ c. search laws)  -- overflow_mul-next-in-loop-k
+    (λ c. search laws)  -- overflow_add-root
+    (λ c. search laws)  -- loop-k-smaller-then-next-left
+    (λ c. search laws)  -- loop-k-preserved-then-next-left
+    (λ c. search laws)  -- loop-k-smaller
+    (λ c. search laws)  -- loop-k-preserved
     (λ c. search laws))  -- returns

@@ -20,6 +20,6 @@ pub corner_spec : {M : Type 1} → statement M
 corner_spec =
     tie.close
     (tie.spec
-    (λ c. search laws)  -- cast-t3
-    (λ c. search laws)  -- cast-t4
+    (λ c. search laws)  -- overflow_cast-result
+    (λ c. search laws)  -- overflow_cast-result-2
     (λ c. search laws))  -- returns

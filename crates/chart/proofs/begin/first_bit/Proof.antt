@@ -10,5 +10,5 @@ pub first_bit_spec : {M : Type 1} → statement M
 first_bit_spec =
     tie.close
     (tie.spec
-    (λ c. search laws)  -- cast-result
+    (λ c. search laws)  -- overflow_cast-result
     (λ c. search laws))  -- returns

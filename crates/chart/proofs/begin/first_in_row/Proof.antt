@@ -8,11 +8,11 @@ use Rattle.chart.proofs.begin.Starts.{no_byte_yet, place_fits, column_fits, foun
 use Rattle.chart.proofs.begin.first_in_row.Statement.{statement}
 use Rattle.chart.proofs.begin.first_in_row.Tie as tie
 
-abbrev invariant-loop : tie.invariant-loop
-invariant-loop chart pixels y bytes from i₀ i = (i ≤ bytes) × (first_in_row chart pixels 0 y chart.width ≡ first_in_row chart pixels (i * 8) y (chart.width - i * 8))
+abbrev invariant-loop-i : tie.invariant-loop-i
+invariant-loop-i chart pixels y bytes from i₀ i = (i ≤ bytes) × (first_in_row chart pixels 0 y chart.width ≡ first_in_row chart pixels (i * 8) y (chart.width - i * 8))
 
-abbrev decreases-loop : tie.decreases-loop
-decreases-loop chart pixels y bytes from i₀ i = bytes - i
+abbrev decreases-loop-i : tie.decreases-loop-i
+decreases-loop-i chart pixels y bytes from i₀ i = bytes - i
 
 ruleset laws = (row_start_fits, in_row, in_row_fits, no_byte_yet, place_fits, column_fits, found_in_byte, blank_byte, blank_row, rules)
 
@@ -20,18 +20,18 @@ pub first_in_row_spec : {M : Type 1} → statement M
 first_in_row_spec =
     tie.close
     (tie.spec
-    invariant-loop
-    decreases-loop
-    (λ c κs. search laws)  -- row-bytes-requires
-    (λ c. search laws)  -- mul-from
-    (λ c. search laws)  -- loop-holds
-    (λ c. search laws)  -- add-first-bit
-    (λ c. search laws)  -- shared-slice-read-first-bit
-    (λ c κs. search laws)  -- first-bit-requires
-    (λ c. search laws)  -- mul-result
-    (λ c. search laws)  -- add-result
-    (λ c. search laws)  -- returns
-    (λ c. search laws)  -- add-i
-    (λ c. search laws)  -- loop-less
-    (λ c. search laws)  -- loop-again
-    (λ c. search laws))  -- returns_2
+    invariant-loop-i
+    decreases-loop-i
+    (λ c κs. search laws)  -- row_bytes-bytes-requires
+    (λ c. search laws)  -- overflow_mul-from
+    (λ c. search laws)  -- loop-i-init
+    (λ c. search laws)  -- overflow_add-from
+    (λ c. search laws)  -- bounds-pixels-from
+    (λ c κs. search laws)  -- first_bit-first-requires
+    (λ c. search laws)  -- overflow_mul-result
+    (λ c. search laws)  -- overflow_add-result
+    (λ c. search laws)  -- returns-then-first-lt8
+    (λ c. search laws)  -- overflow_add-i
+    (λ c. search laws)  -- loop-i-smaller
+    (λ c. search laws)  -- loop-i-preserved
+    (λ c. search laws))  -- returns

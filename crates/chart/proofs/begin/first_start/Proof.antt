@@ -19,11 +19,11 @@ use Rattle.chart.proofs.Rows.{good}
 use Rattle.chart.proofs.begin.first_start.Statement.{statement}
 use Rattle.chart.proofs.begin.first_start.Tie as tie
 
-abbrev invariant-loop : tie.invariant-loop
-invariant-loop chart pixels y₀ y = (y ≤ chart.height) × Good chart pixels × (first_in_rows chart pixels 0 chart.height ≡ first_in_rows chart pixels y (chart.height - y))
+abbrev invariant-loop-y : tie.invariant-loop-y
+invariant-loop-y chart pixels y₀ y = (y ≤ chart.height) × Good chart pixels × (first_in_rows chart pixels 0 chart.height ≡ first_in_rows chart pixels y (chart.height - y))
 
-abbrev decreases-loop : tie.decreases-loop
-decreases-loop chart pixels y₀ y = chart.height - y
+abbrev decreases-loop-y : tie.decreases-loop-y
+decreases-loop-y chart pixels y₀ y = chart.height - y
 
 module _ (c : Chart) (pixels : List ℕ) where
   no_row_yet : first_in_rows c pixels 0 c.height ≡ first_in_rows c pixels 0 (c.height - 0)
@@ -59,17 +59,17 @@ pub first_start_spec : {M : Type 1} → statement M
 first_start_spec =
     tie.close
     (tie.spec
-    invariant-loop
-    decreases-loop
-    (λ c κs. search laws)  -- bad-chart-requires
-    (λ c. search laws)  -- returns
-    (λ c. search laws)  -- loop-holds
-    (λ c κs. search laws)  -- first-in-row-requires
+    invariant-loop-y
+    decreases-loop-y
+    (λ c κs. search laws)  -- bad_chart-requires
+    (λ c. search laws)  -- returns-then-bad_chart
+    (λ c. search laws)  -- loop-y-init
+    (λ c κs. search laws)  -- first_in_row-x-requires
     (λ c κs. search laws)  -- corner-requires
-    (λ c. search laws)  -- returns_2
-    (λ c. search laws)  -- add-y
-    (λ c. search laws)  -- loop-less
+    (λ c. search laws)  -- returns-then-x-chart
+    (λ c. search laws)  -- overflow_add-y
+    (λ c. search laws)  -- loop-y-smaller
     (λ c.
-    let inv = c.before.before.before.before.before.loop.invariant in
-    (omega arith, inv.1, blank_row _ _ _ inv.2 _ c.before.before.first-in-row.ensures c.before.before.before.if2.true c.if3.false))  -- loop-again
-    (λ c. search laws))  -- returns_3
+    let inv = c.before.before.before.before.before.loop-y.invariant in
+    (omega arith, inv.1, blank_row _ _ _ inv.2 _ c.before.before.first_in_row-x.ensures c.before.before.before.loop-y-test.true c.if-x-chart.false))  -- loop-y-preserved
+    (λ c. search laws))  -- returns

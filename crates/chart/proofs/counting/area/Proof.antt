@@ -19,11 +19,11 @@ use Rattle.chart.proofs.Rows.{good, row_le, rows_le}
 use Rattle.chart.proofs.counting.area.Statement.{statement}
 use Rattle.chart.proofs.counting.area.Tie as tie
 
-abbrev invariant-loop : tie.invariant-loop
-invariant-loop chart pixels set₀ y₀ set y = (y ≤ chart.height) × Good chart pixels × (set ≡ rows_area chart pixels y)
+abbrev invariant-loop-y : tie.invariant-loop-y
+invariant-loop-y chart pixels set₀ y₀ set y = (y ≤ chart.height) × Good chart pixels × (set ≡ rows_area chart pixels y)
 
-abbrev decreases-loop : tie.decreases-loop
-decreases-loop chart pixels set₀ y₀ set y = chart.height - y
+abbrev decreases-loop-y : tie.decreases-loop-y
+decreases-loop-y chart pixels set₀ y₀ set y = chart.height - y
 
 module _ (c : Chart) (pixels : List ℕ) where
   no_row_yet : 0 ≡ rows_area c pixels 0
@@ -56,14 +56,14 @@ pub area_spec : {M : Type 1} → statement M
 area_spec =
     tie.close
     (tie.spec
-    invariant-loop
-    decreases-loop
-    (λ c κs. search laws)  -- bad-chart-requires
-    (λ c. search laws)  -- returns
-    (λ c. search laws)  -- loop-holds
-    (λ c κs. search laws)  -- row-area-requires
-    (λ c. search laws)  -- add-set
-    (λ c. search laws)  -- add-y
-    (λ c. search laws)  -- loop-less
-    (λ c. search laws)  -- loop-again
-    (λ c. search laws))  -- returns_2
+    invariant-loop-y
+    decreases-loop-y
+    (λ c κs. search laws)  -- bad_chart-requires
+    (λ c. search laws)  -- returns-then-bad_chart
+    (λ c. search laws)  -- loop-y-init
+    (λ c κs. search laws)  -- row_area-set-requires
+    (λ c. search laws)  -- overflow_add-set
+    (λ c. search laws)  -- overflow_add-y
+    (λ c. search laws)  -- loop-y-smaller
+    (λ c. search laws)  -- loop-y-preserved
+    (λ c. search laws))  -- returns

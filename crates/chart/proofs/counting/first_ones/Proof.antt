@@ -10,8 +10,8 @@ pub first_ones_spec : {M : Type 1} → statement M
 first_ones_spec =
     tie.close
     (tie.spec
-    (λ c. search laws)  -- sub-result
-    (λ c. search laws)  -- cast-result
-    (λ c. search laws)  -- shl-result
-    (λ c. search laws)  -- cast-result-2
+    (λ c. search laws)  -- overflow_sub-result
+    (λ c. search laws)  -- overflow_cast-result
+    (λ c. search laws)  -- overflow_shl-result
+    (λ c. search laws)  -- overflow_cast-result-2
     (λ c. search laws))  -- returns

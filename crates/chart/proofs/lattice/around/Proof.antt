@@ -11,12 +11,12 @@ pub around_spec : {M : Type 1} → statement M
 around_spec =
     tie.close
     (tie.spec
-    (λ c κs. search laws)  -- at-the-edge-requires
-    (λ c. search laws)  -- returns
-    (λ c. cast _ c.before.before.before.ranges.x c.before.if1.false)  -- cast-column
-    (λ c. cast _ c.before.before.before.ranges.y c.if2.false)  -- cast-row
-    (λ c κs. cast_small _ c.before.before.before.ranges.y c.if2.false)  -- surrounded-requires
-    (λ c κs. (cast_small _ c.before.before.before.before.before.ranges.y c.before.before.if2.false, sym c.before.surrounded.ensures ∙ c.if3.true))  -- four-requires
-    (λ c. search laws)  -- returns_2
-    (λ c κs. search laws)  -- at-the-edge-requires-2
-    (λ c. search laws))  -- returns_3
+    (λ c κs. search laws)  -- at_the_edge-requires
+    (λ c. search laws)  -- returns-then-x-lt0
+    (λ c. cast _ c.before.before.before.ranges.x c.before.if-x-lt0.false)  -- overflow_cast-column
+    (λ c. cast _ c.before.before.before.ranges.y c.if-y-lt0.false)  -- overflow_cast-row
+    (λ c κs. cast_small _ c.before.before.before.ranges.y c.if-y-lt0.false)  -- surrounded-requires
+    (λ c κs. (cast_small _ c.before.before.before.before.before.ranges.y c.before.before.if-y-lt0.false, sym c.before.surrounded.ensures ∙ c.if-surrounded.true))  -- four-requires
+    (λ c. search laws)  -- returns-then-surrounded
+    (λ c κs. search laws)  -- at_the_edge-requires-2
+    (λ c. search laws))  -- returns

@@ -10,13 +10,13 @@ pub four_spec : {M : Type 1} → statement M
 four_spec =
     tie.close
     (tie.spec
-    (λ c κs. search laws)  -- row-bytes-requires
-    (λ c. search laws)  -- mul-stride
-    (λ c. search laws)  -- mul-bit
-    (λ c. search laws)  -- add-bit
-    (λ c. search laws)  -- sub-pair
-    (λ c κs. pair_above _ _ _ _ c.before.before.requires.1 _ c.row-bytes.ensures)  -- pair-requires
-    (λ c. search laws)  -- mul-result
-    (λ c κs. pair_below _ _ _ _ c.before.before.before.requires.1 _ c.before.row-bytes.ensures)  -- pair-requires-2
-    (λ c. search laws)  -- add-result
+    (λ c κs. search laws)  -- row_bytes-stride-requires
+    (λ c. search laws)  -- overflow_mul-stride
+    (λ c. search laws)  -- overflow_mul-bit
+    (λ c. search laws)  -- overflow_add-bit
+    (λ c. search laws)  -- overflow_sub-bit
+    (λ c κs. pair_above _ _ _ _ c.before.before.requires.1 _ c.row_bytes-stride.ensures)  -- pair-requires
+    (λ c. search laws)  -- overflow_mul-result
+    (λ c κs. pair_below _ _ _ _ c.before.before.before.requires.1 _ c.before.row_bytes-stride.ensures)  -- pair-requires-2
+    (λ c. search laws)  -- overflow_add-result
     (λ c. search laws))  -- returns

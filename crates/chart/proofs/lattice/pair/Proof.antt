@@ -10,14 +10,14 @@ pub pair_spec : {M : Type 1} → statement M
 pair_spec =
     tie.close
     (tie.spec
-    (λ c. search laws)  -- sub-result
-    (λ c. search laws)  -- shared-slice-read-result
-    (λ c. search laws)  -- mul-result
-    (λ c. search laws)  -- shared-slice-read-result-2
-    (λ c. search laws)  -- add-result
-    (λ c. search laws)  -- returns
-    (λ c. search laws)  -- shared-slice-read-result-3
-    (λ c. search laws)  -- sub-result-2
-    (λ c. search laws)  -- cast-result
-    (λ c. search laws)  -- shr-result
-    (λ c. search laws))  -- returns_2
+    (λ c. search laws)  -- overflow_sub-left
+    (λ c. search laws)  -- bounds-pixels-at
+    (λ c. search laws)  -- bounds-pixels-at-then-k-eq0
+    (λ c. search laws)  -- overflow_mul-result
+    (λ c. search laws)  -- overflow_add-result
+    (λ c. search laws)  -- returns-then-k-eq0
+    (λ c. search laws)  -- bounds-pixels-at-2
+    (λ c. search laws)  -- overflow_sub-result
+    (λ c. search laws)  -- overflow_cast-result
+    (λ c. search laws)  -- overflow_shr-result
+    (λ c. search laws))  -- returns

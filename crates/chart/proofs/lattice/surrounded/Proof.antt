@@ -11,12 +11,12 @@ pub surrounded_spec : {M : Type 1} → statement M
 surrounded_spec =
     tie.close
     (tie.spec
-    (λ c. search laws)  -- returns
-    (λ c. search laws)  -- returns_2
-    (λ c κs. search laws)  -- has-pixel-requires
-    (λ c. search laws)  -- returns_3
-    (λ c κs. search laws)  -- row-bytes-requires
-    (λ c. search laws)  -- mul-stride
-    (λ c. search laws)  -- mul-result
-    (λ c. search laws)  -- add-result
-    (λ c. search laws))  -- returns-4
+    (λ c. search laws)  -- returns-then-column-lt1
+    (λ c. search laws)  -- returns-then-row-lt1
+    (λ c κs. search laws)  -- has_pixel-requires
+    (λ c. search laws)  -- returns-then-not-has_pixel
+    (λ c κs. search laws)  -- row_bytes-stride-requires
+    (λ c. search laws)  -- overflow_mul-stride
+    (λ c. search laws)  -- overflow_mul-result
+    (λ c. search laws)  -- overflow_add-result
+    (λ c. search laws))  -- returns

@@ -11,11 +11,11 @@ pub two_spec : {M : Type 1} → statement M
 two_spec =
     tie.close
     (tie.spec
-    (λ c. search laws)  -- sub-pixel
+    (λ c. search laws)  -- overflow_sub-x
     (λ c κs. search laws)  -- pixel-requires
     (λ c κs. search laws)  -- one-requires
-    (λ c. search laws)  -- mul-result
+    (λ c. search laws)  -- overflow_mul-result
     (λ c κs. search laws)  -- pixel-requires-2
     (λ c κs. search laws)  -- one-requires-2
-    (λ c. search laws)  -- add-result
+    (λ c. search laws)  -- overflow_add-result
     (λ c. search laws))  -- returns

@@ -10,8 +10,8 @@ pub all_bytes_spec : {M : Type 1} → statement M
 all_bytes_spec =
     tie.close
     (tie.spec
-    (λ c κs. search laws)  -- bad-sides-requires
-    (λ c. search laws)  -- returns
-    (λ c κs. search laws)  -- row-bytes-requires
-    (λ c. search laws)  -- mul-result
-    (λ c. search laws))  -- returns_2
+    (λ c κs. search laws)  -- bad_sides-requires
+    (λ c. search laws)  -- returns-then-bad_sides
+    (λ c κs. search laws)  -- row_bytes-requires
+    (λ c. search laws)  -- overflow_mul-result
+    (λ c. search laws))  -- returns

@@ -26,7 +26,7 @@ pub bad_chart_spec : {M : Type 1} → statement M
 bad_chart_spec =
     tie.close
     (tie.spec
-    (λ c κs. search laws)  -- bad-sides-requires
-    (λ c. search laws)  -- returns
-    (λ c κs. search laws)  -- all-bytes-requires
-    (λ c. search laws))  -- returns_2
+    (λ c κs. search laws)  -- bad_sides-requires
+    (λ c. search laws)  -- returns-then-bad_sides
+    (λ c κs. search laws)  -- all_bytes-requires
+    (λ c. search laws))  -- returns

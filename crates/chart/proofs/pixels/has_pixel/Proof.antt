@@ -10,6 +10,6 @@ pub has_pixel_spec : {M : Type 1} → statement M
 has_pixel_spec =
     tie.close
     (tie.spec
-    (λ c. search laws)  -- returns
-    (λ c. search laws)  -- returns_2
-    (λ c. search laws))  -- returns_3
+    (λ c. search laws)  -- returns-then-chart-gt-LONGEST
+    (λ c. search laws)  -- returns-then-chart-column
+    (λ c. search laws))  -- returns

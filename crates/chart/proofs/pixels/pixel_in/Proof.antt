@@ -11,14 +11,14 @@ pub pixel_in_spec : {M : Type 1} → statement M
 pixel_in_spec =
     tie.close
     (tie.spec
-    (λ c κs. search laws)  -- has-pixel-requires
-    (λ c. search laws)  -- returns
-    (λ c κs. search laws)  -- row-bytes-requires
-    (λ c. search laws)  -- mul-at
-    (λ c. search laws)  -- add-at
-    (λ c. search laws)  -- returns_2
-    (λ c. search laws)  -- shared-slice-read-result
-    (λ c. search laws)  -- sub-result
-    (λ c. search laws)  -- cast-result
-    (λ c. search laws)  -- shr-result
-    (λ c. search laws))  -- returns_3
+    (λ c κs. search laws)  -- has_pixel-requires
+    (λ c. search laws)  -- returns-then-not-has_pixel
+    (λ c κs. search laws)  -- row_bytes-requires
+    (λ c. search laws)  -- overflow_mul-at
+    (λ c. search laws)  -- overflow_add-at
+    (λ c. search laws)  -- returns-then-pixels-at
+    (λ c. search laws)  -- bounds-pixels-at
+    (λ c. search laws)  -- overflow_sub-result
+    (λ c. search laws)  -- overflow_cast-result
+    (λ c. search laws)  -- overflow_shr-result
+    (λ c. search laws))  -- returns

@@ -10,6 +10,6 @@ unfolding row_bytes
 row_bytes_spec =
     tie.close
     (tie.spec
-    (λ c. search rules)  -- add-result
-    (λ c. search rules)  -- add-result-2
+    (λ c. search rules)  -- overflow_add-result
+    (λ c. search rules)  -- overflow_add-result-2
     (λ c. omega arith))  -- returns

@@ -10,5 +10,5 @@ pub side_spec : {M : Type 1} → statement M
 side_spec =
     tie.close
     (tie.spec
-    (λ c. search laws)  -- returns
-    (λ c. search laws))  -- returns_2
+    (λ c. search laws)  -- returns-then-size-ge1
+    (λ c. search laws))  -- returns-else-size-ge1

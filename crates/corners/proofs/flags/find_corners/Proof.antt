@@ -81,4 +81,4 @@ find_corners_spec =
     (λ c. search laws)  -- returns_5
     (λ c κs. search laws)  -- write-requires
     (λ c. search laws)  -- same-length
-    (λ c. search laws))  -- returns_6
+    (λ c. search laws))  -- returns-6

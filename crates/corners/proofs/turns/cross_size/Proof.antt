@@ -8,8 +8,8 @@ use lib.IntN.{ℤ, pos, nat_abs, ◌*ℤ◌}
 use borrow.Author.Rules.{rules}
 use Rattle.laws.proofs.Integers.{abs_mul_le, abs_sub_le}
 use Rattle.util.specs.Area.{cross_of}
-use Rattle.util.proofs.ByBits.{turned, wide_by_bits}
-use Rattle.corners.proofs.Bits.{small_by_bits}
+use Rattle.util.proofs.ByBits.{turned}
+use Rattle.corners.proofs.Bits.{wide_by_bits, small_by_bits}
 use Rattle.corners.proofs.turns.cross_size.Statement.{statement}
 use Rattle.corners.proofs.turns.cross_size.Tie as tie
 

@@ -9,8 +9,8 @@ use borrow.Author.Rules.{rules}
 use Rattle.laws.proofs.Integers.{abs_mul_le, abs_add_le}
 use Rattle.laws.proofs.Ring.{eq_pn, add_pn, sub_pn, neg_pn, *ℤ_neg_ℤ}
 use Rattle.util.specs.Area.{cross_of}
-use Rattle.util.proofs.ByBits.{turned, by_bits, wide_by_bits}
-use Rattle.corners.proofs.Bits.{small_by_bits}
+use Rattle.util.proofs.ByBits.{turned, by_bits}
+use Rattle.corners.proofs.Bits.{wide_by_bits, small_by_bits}
 use Rattle.corners.proofs.turns.dot.Statement.{statement}
 use Rattle.corners.proofs.turns.dot.Tie as tie
 

@@ -10,10 +10,11 @@ use lib.Signed.{le_z}
 use borrow.Author.Rules.{rules}
 use Rattle.point.specs.declared.PointI32.{PointI32}
 use Rattle.util.specs.Area.{cross_of}
-use Rattle.util.proofs.ByBits.{by_bits, wide_by_bits}
+use Rattle.util.proofs.ByBits.{by_bits}
 use Rattle.corners.specs.declared.Pair.{Pair}
 use Rattle.corners.specs.Corners.{dot, cross, sharp}
 use Rattle.corners.specs.inside.Sizes.{Short, Moderate}
+use Rattle.corners.proofs.Bits.{wide_by_bits}
 use Rattle.corners.proofs.turns.sharp.Statement.{statement}
 use Rattle.corners.proofs.turns.sharp.Tie as tie
 
@@ -45,8 +46,8 @@ module _ (pair : Pair) (v1 v2 : PointI32) (m : Moderate pair) (s1 : Short v1) (s
   judged r e =
       e
       ∙ (rw (
-        wide_by_bits a (omega arith),
-        wide_by_bits b (omega arith),
+        wide_by_bits a ha,
+        wide_by_bits b hb,
         scaled pair.c m.cosine c a ea hc,
         scaled pair.s m.sine d b eb hd,
         c_is,

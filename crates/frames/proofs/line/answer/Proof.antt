@@ -1,7 +1,6 @@
 -- `answer` meets its contract. Assumes nothing.
 use borrow.Author.Rules.{rules}
-use Rattle.requests.proofs.Line.{in_array}
-use Rattle.frames.proofs.line.Bytes.{a_frame, no_bytes}
+use Rattle.frames.proofs.line.Bytes.{in_array, a_frame, no_bytes}
 use Rattle.frames.proofs.line.answer.Statement.{statement}
 use Rattle.frames.proofs.line.answer.Tie as tie
 

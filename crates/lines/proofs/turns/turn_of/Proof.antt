@@ -1,15 +1,16 @@
 -- `turn_of` meets its contract: the tests on the way pick a line of `turn_of`. Assumes nothing.
 use Prim.Native.Nat.{ℕ, ◌<◌, ◌≤◌}
 use mathlib.Core.Path.{◌≡◌}
+use native.Mathlib.Omega.{arith}
 use borrow.Author.Rules.{rules}
 use borrow.Author.Tests.{lt-ltb, le-ltb}
-use Rattle.lines.specs.Turns.{writes, closing, turn_of}
+use Rattle.lines.specs.Turns.{writes, turn_of}
 use Rattle.lines.specs.declared.reader.Reader.{Reader}
 use Rattle.lines.specs.declared.reader.Taken.{Taken}
 use Rattle.lines.specs.declared.reader.Taken.TheVariants as Taken
 use Rattle.lines.specs.declared.turns.State.{State}
 use Rattle.lines.specs.declared.turns.Turn.{Turn}
-use Rattle.lines.specs.declared.turns.Turn.TheVariants.{Line, Read}
+use Rattle.lines.specs.declared.turns.Turn.TheVariants.{Line, Read, End}
 use Rattle.lines.proofs.turns.turn_of.Statement.{statement}
 use Rattle.lines.proofs.turns.turn_of.Tie as tie
 
@@ -23,10 +24,13 @@ module _ (s : State) (taken : Taken) where
   reads_on : (at : ℕ) (r : Reader) → taken ≡ Taken.More at r → s.waiting ≤ 0 → Read at (record { reader = r; waiting = 0 }) ≡ turn_of s taken
   reads_on at r e h = rw (e, le-ltb _ _ h)
 
-  closes : (t : Turn) → taken ≡ Taken.End → t ≡ closing s → t ≡ turn_of s taken
-  closes t e c = rw (c, e)
+  writes_last : (t : Turn) → taken ≡ Taken.End → (s.waiting ≡ 0 → ⊥) → t ≡ writes s.reader s.waiting → t ≡ turn_of s taken
+  writes_last t e h w = let l : 0 < s.waiting = omega arith in rw (w, e, lt-ltb _ _ l)
 
-ruleset laws = (a_line, writes_first, reads_on, closes, rules)
+  ends : taken ≡ Taken.End → s.waiting ≡ 0 → End ≡ turn_of s taken
+  ends e h = rw (e, h)
+
+ruleset laws = (a_line, writes_first, reads_on, writes_last, ends, rules)
 
 pub turn_of_spec : {M : Type 1} → statement M
 turn_of_spec =
@@ -37,7 +41,8 @@ turn_of_spec =
     (λ c κs. search laws)  -- write-requires
     (λ c. search laws)  -- returns
     (λ c. search laws)  -- enum-told
-    (λ c κs. search laws)  -- closing-requires
     (λ c. search laws)  -- returns_2
+    (λ c κs. search laws)  -- write-requires-2
     (λ c. search laws)  -- returns_3
-    (λ c. search laws))  -- returns-4
+    (λ c. search laws)  -- returns-4
+    (λ c. search laws))  -- returns_5

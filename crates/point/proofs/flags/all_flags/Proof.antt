@@ -12,11 +12,11 @@ use Rattle.point.specs.Limits.{every, is_flag}
 use Rattle.point.proofs.flags.all_flags.Statement.{statement}
 use Rattle.point.proofs.flags.all_flags.Tie as tie
 
-abbrev invariant-loop : tie.invariant-loop
-invariant-loop flags i₀ i = (i ≤ length flags) × (every is_flag flags ≡ every is_flag (drop i flags))
+abbrev invariant-loop-i : tie.invariant-loop-i
+invariant-loop-i flags i₀ i = (i ≤ length flags) × (every is_flag flags ≡ every is_flag (drop i flags))
 
-abbrev decreases-loop : tie.decreases-loop
-decreases-loop flags i₀ i = length flags - i
+abbrev decreases-loop-i : tie.decreases-loop-i
+decreases-loop-i flags i₀ i = length flags - i
 
 module _ (flags : List ℕ) (i : ℕ) (inv : every is_flag flags ≡ every is_flag (drop i flags)) where
   module _ (r : Bool) (says : r ≡ is_flag (get_or flags i 0)) (h : i < length flags) where
@@ -38,13 +38,13 @@ pub all_flags_spec : {M : Type 1} → statement M
 all_flags_spec =
     tie.close
     (tie.spec
-    invariant-loop
-    decreases-loop
-    (λ c. search laws)  -- loop-holds
-    (λ c. search laws)  -- shared-slice-read-is-flag
-    (λ c κs. search laws)  -- is-flag-requires
-    (λ c. search laws)  -- returns
-    (λ c. search laws)  -- add-i
-    (λ c. search laws)  -- loop-less
-    (λ c. search laws)  -- loop-again
-    (λ c. search laws))  -- returns_2
+    invariant-loop-i
+    decreases-loop-i
+    (λ c. search laws)  -- loop-i-init
+    (λ c. search laws)  -- bounds-flags-i
+    (λ c κs. search laws)  -- is_flag-requires
+    (λ c. search laws)  -- returns-then-not-is_flag
+    (λ c. search laws)  -- overflow_add-i
+    (λ c. search laws)  -- loop-i-smaller
+    (λ c. search laws)  -- loop-i-preserved
+    (λ c. search laws))  -- returns

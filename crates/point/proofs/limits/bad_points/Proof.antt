@@ -10,11 +10,11 @@ use Rattle.point.proofs.Every.{odd, judged_by_bits, none_left}
 use Rattle.point.proofs.limits.bad_points.Statement.{statement}
 use Rattle.point.proofs.limits.bad_points.Tie as tie
 
-abbrev invariant-loop : tie.invariant-loop
-invariant-loop points fine₀ i₀ fine i = (i ≤ length points) × (every in_range points ≡ (fine && every in_range (drop i points)))
+abbrev invariant-loop-i : tie.invariant-loop-i
+invariant-loop-i points fine₀ i₀ fine i = (i ≤ length points) × (every in_range points ≡ (fine && every in_range (drop i points)))
 
-abbrev decreases-loop : tie.decreases-loop
-decreases-loop points fine₀ i₀ fine i = length points - i
+abbrev decreases-loop-i : tie.decreases-loop-i
+decreases-loop-i points fine₀ i₀ fine i = length points - i
 
 ruleset laws = (odd, judged_by_bits, none_left, rules)
 
@@ -22,14 +22,14 @@ pub bad_points_spec : {M : Type 1} → statement M
 bad_points_spec =
     tie.close
     (tie.spec
-    invariant-loop
-    decreases-loop
-    (λ c. search laws)  -- returns
-    (λ c. search laws)  -- loop-holds
-    (λ c. search laws)  -- mul-in-range
-    (λ c. search laws)  -- shared-slice-copy-out-in-range
-    (λ c κs. search laws)  -- in-range-requires
-    (λ c. search laws)  -- add-i
-    (λ c. search laws)  -- loop-less
-    (λ c. search laws)  -- loop-again
-    (λ c. search laws))  -- returns_2
+    invariant-loop-i
+    decreases-loop-i
+    (λ c. search laws)  -- returns-then-points-ne0
+    (λ c. search laws)  -- loop-i-init
+    (λ c. search laws)  -- offset_bounds-points-i
+    (λ c. search laws)  -- bounds-points-i
+    (λ c κs. search laws)  -- in_range-fine-requires
+    (λ c. search laws)  -- overflow_add-i
+    (λ c. search laws)  -- loop-i-smaller
+    (λ c. search laws)  -- loop-i-preserved
+    (λ c. search laws))  -- returns

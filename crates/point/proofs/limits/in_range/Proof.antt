@@ -9,6 +9,6 @@ pub in_range_spec : {M : Type 1} → statement M
 in_range_spec =
     tie.close
     (tie.spec
-    (λ c. search rules)  -- sub-if1
-    (λ c. simp (to_z-of_z, c.before.ranges.value) (and_second _ _ (simp (to_z-of_z, c.before.ranges.value) at c.if1.true)))  -- returns
-    (λ c. simp (to_z-of_z, c.before.ranges.value) (and_itself _ _ (simp (to_z-of_z, c.before.ranges.value) at c.if1.false))))  -- returns_2
+    (λ c. search rules)  -- overflow_sub-t-3
+    (λ c. simp (to_z-of_z, c.before.ranges.value) (and_second _ _ (simp (to_z-of_z, c.before.ranges.value) at c.if-value.true)))  -- returns-then-value
+    (λ c. simp (to_z-of_z, c.before.ranges.value) (and_itself _ _ (simp (to_z-of_z, c.before.ranges.value) at c.if-value.false))))  -- returns-else-value

@@ -43,11 +43,11 @@ pub judge_spec : {M : Type 1} → statement M
 judge_spec =
     tie.close
     (tie.spec
-    (λ c κs. search laws)  -- too-many-requires
-    (λ c. search laws)  -- returns
-    (λ c κs. search laws)  -- bad-points-requires
-    (λ c. search laws)  -- returns_2
-    (λ c κs. search laws)  -- places-for-requires
-    (λ c. search laws)  -- mul-if3
-    (λ c. search laws)  -- returns_3
-    (λ c. search laws))  -- returns-4
+    (λ c κs. search laws)  -- too_many-requires
+    (λ c. search laws)  -- returns-then-too_many
+    (λ c κs. search laws)  -- bad_points-requires
+    (λ c. search laws)  -- returns-then-bad_points
+    (λ c κs. search laws)  -- places_for-requires
+    (λ c. search laws)  -- overflow_mul-places_for
+    (λ c. search laws)  -- returns-then-room-places_for
+    (λ c. search laws))  -- returns

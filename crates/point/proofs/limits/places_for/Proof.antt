@@ -19,5 +19,5 @@ pub places_for_spec : {M : Type 1} → statement M
 places_for_spec =
     tie.close
     (tie.spec
-    (λ c. search laws)  -- returns
-    (λ c. search laws))  -- returns_2
+    (λ c. search laws)  -- returns-then-points-eq1
+    (λ c. search laws))  -- returns-else-points-eq1

@@ -31,7 +31,7 @@ pub point_in_range_spec : {M : Type 1} → statement M
 point_in_range_spec =
     tie.close
     (tie.spec
-    (λ c κs. search laws)  -- in-range-requires
-    (λ c κs. search laws)  -- in-range-requires-2
-    (λ c. search laws)  -- returns
-    (λ c. search laws))  -- returns_2
+    (λ c κs. search laws)  -- in_range-requires
+    (λ c κs. search laws)  -- in_range-requires-then-in_range
+    (λ c. search laws)  -- returns-then-in_range
+    (λ c. search laws))  -- returns-else-in_range

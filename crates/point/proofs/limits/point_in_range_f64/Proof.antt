@@ -10,7 +10,7 @@ pub point_in_range_f64_spec : {M : Type 1} → statement M
 point_in_range_f64_spec =
     tie.close
     (tie.spec
-    (λ c κs. search laws)  -- in-range-f64-requires
-    (λ c κs. search laws)  -- in-range-f64-requires
-    (λ c. search laws)  -- returns
-    (λ c. search laws))  -- returns_2
+    (λ c κs. search laws)  -- in_range_f64-requires
+    (λ c κs. search laws)  -- in_range_f64-requires-then-in_range_f64
+    (λ c. search laws)  -- returns-then-in_range_f64
+    (λ c. search laws))  -- returns-else-in_range_f64

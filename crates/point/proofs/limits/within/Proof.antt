@@ -10,5 +10,5 @@ pub within_spec : {M : Type 1} → statement M
 within_spec =
     tie.close
     (tie.spec
-    (λ c. search laws)  -- returns
-    (λ c. search laws))  -- returns_2
+    (λ c. search laws)  -- returns-then-low-value
+    (λ c. search laws))  -- returns-else-low-value

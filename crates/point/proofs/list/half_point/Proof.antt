@@ -32,9 +32,9 @@ pub half_point_spec : {M : Type 1} → statement M
 half_point_spec =
     tie.close
     (tie.spec
-    (λ c. search laws)  -- sub-if1
-    (λ c. search laws)  -- mul-t8
-    (λ c. search laws)  -- mul-t9
-    (λ c. search laws)  -- shared-slice-copy-out-t11
-    (λ c. search laws)  -- returns
-    (λ c. search laws))  -- returns_2
+    (λ c. search laws)  -- overflow_sub-points
+    (λ c. search laws)  -- overflow_mul-result
+    (λ c. search laws)  -- offset_bounds-points-k
+    (λ c. search laws)  -- bounds-points-k
+    (λ c. search laws)  -- returns-then-k-points
+    (λ c. search laws))  -- returns

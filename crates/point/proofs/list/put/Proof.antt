@@ -23,15 +23,15 @@ pub put_spec : {M : Type 1} → statement M
 put_spec =
     tie.close
     (tie.spec
-    (λ c. search laws)  -- mul-x
-    (λ c. search laws)  -- mul-x-2
-    (λ c. search laws)  -- slice-set-from-x
-    (λ c. search laws)  -- mul-y
-    (λ c. search laws)  -- add-y
-    (λ c. search laws)  -- mul-y-2
-    (λ c. search laws)  -- slice-set-from-y
-    (λ c. search laws)  -- same-length
-    (λ c. search laws)  -- returns
-    (λ c κs. search laws)  -- put-half-requires
-    (λ c. search laws)  -- same-length-2
-    (λ c. search laws))  -- returns_2
+    (λ c. search laws)  -- overflow_mul-x
+    (λ c. search laws)  -- offset_bounds-out-k
+    (λ c. search laws)  -- bounds-out-k
+    (λ c. search laws)  -- overflow_mul-y
+    (λ c. search laws)  -- overflow_add-y
+    (λ c. search laws)  -- offset_bounds-out-k-then-k-out
+    (λ c. search laws)  -- bounds-out-k-then-k-out
+    (λ c. search laws)  -- shape_of-out-then-k-out
+    (λ c. search laws)  -- returns-then-k-out
+    (λ c κs. search laws)  -- put_half-requires
+    (λ c. search laws)  -- shape_of-out
+    (λ c. search laws))  -- returns

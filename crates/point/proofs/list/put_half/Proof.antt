@@ -19,10 +19,10 @@ pub put_half_spec : {M : Type 1} → statement M
 put_half_spec =
     tie.close
     (tie.spec
-    (λ c. search laws)  -- sub-if1
-    (λ c. search laws)  -- mul-x
-    (λ c. search laws)  -- mul-x-2
-    (λ c. search laws)  -- slice-set-from-x
-    (λ c. search laws)  -- same-length
-    (λ c. search laws)  -- returns
-    (λ c. search laws))  -- returns_2
+    (λ c. search laws)  -- overflow_sub-out
+    (λ c. search laws)  -- overflow_mul-x
+    (λ c. search laws)  -- offset_bounds-out-k
+    (λ c. search laws)  -- bounds-out-k
+    (λ c. search laws)  -- shape_of-out
+    (λ c. search laws)  -- returns-then-k-out
+    (λ c. search laws))  -- returns-else-k-out

@@ -27,7 +27,7 @@ pub seen_spec : {M : Type 1} → statement M
 seen_spec =
     tie.close
     (tie.spec
-    (λ c. search laws)  -- returns
-    (λ c. search laws)  -- sub-result
-    (λ c. search laws)  -- returns_2
-    (λ c. search laws))  -- returns_3
+    (λ c. search laws)  -- returns-then-n-eq0
+    (λ c. search laws)  -- overflow_sub-result
+    (λ c. search laws)  -- returns-then-closed
+    (λ c. search laws))  -- returns-else-closed

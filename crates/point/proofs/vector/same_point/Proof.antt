@@ -30,5 +30,5 @@ pub same_point_spec : {M : Type 1} → statement M
 same_point_spec =
     tie.close
     (tie.spec
-    (λ c. search laws)  -- returns
-    (λ c. search laws))  -- returns_2
+    (λ c. search laws)  -- returns-then-p-q
+    (λ c. search laws))  -- returns-else-p-q

@@ -23,5 +23,5 @@ request_spec =
     (λ c. search laws)  -- same-length-2
     (λ c. search laws)  -- returns_5
     (λ c. search laws)  -- same-length-3
-    (λ c. search laws)  -- returns_6
+    (λ c. search laws)  -- returns-6
     (λ c. search laws))  -- returns_7

@@ -9,7 +9,7 @@ use denote.Enum.Declared.{tag_of}
 use types.Run.{OneOf}
 use borrow.Author.Rules.{rules}
 use Rattle.texts.specs.Put.{Placed, put}
-use Rattle.lines.specs.Turns.{Next, answered_state, line, plain, next_turn, stepped, step_of}
+use Rattle.lines.specs.Turns.{Next, answered_state, line, next_turn, stepped, step_of}
 use Rattle.lines.specs.declared.turns.State.{State}
 use Rattle.lines.specs.declared.turns.Turn.{Turn}
 use Rattle.lines.specs.declared.turns.Turn.TheVariants.{Line, Write, Read, End}
@@ -20,23 +20,23 @@ use Rattle.sandline.proofs.step.step.Statement.{statement}
 use Rattle.sandline.proofs.step.step.Tie as tie
 
 module _ (s : State) (most : ℕ) (input in' output : List ℕ) (t : Turn) (e : record { answer = t; out = in' } ≡ next_turn s most input) where
-  of_turn : stepped (plain answer_to) s tt t in' output ≡ step_of (plain answer_to) s tt most input output
+  of_turn : stepped answer_to t in' output ≡ step_of answer_to s most input output
   unfolding step_of
-  of_turn = ap (λ (n : Next). stepped (plain answer_to) s tt n.answer n.out output) e
+  of_turn = ap (λ (n : Next). stepped answer_to n.answer n.out output) e
 
   answered : (from to : ℕ) (next q : State) (r : ℕ) (last : List ℕ) → t ≡ Line from to next →
       record { answer = r; out = last } ≡ put (line (answer_to (take (to - from) (drop from in')))) output next.waiting → q ≡ answered_state next r →
-      record { answer = Line from to q; out = (tt, in', last) } ≡ step_of (plain answer_to) s tt most input output
+      record { answer = Line from to q; out = (in', last) } ≡ step_of answer_to s most input output
   answered from to next q r last k p a =
-      rw a (ap (λ (o : Placed). record { answer = Line from to (answered_state next o.answer); out = (tt, in', o.out) }) p)
-      ∙ ap (λ (u : Turn). stepped (plain answer_to) s tt u in' output) (sym k)
+      rw a (ap (λ (o : Placed). record { answer = Line from to (answered_state next o.answer); out = (in', o.out) }) p)
+      ∙ ap (λ (u : Turn). stepped answer_to u in' output) (sym k)
       ∙ of_turn
 
   -- of another turn nothing is put
-  unanswered : OneOf (1 ∷ 2 ∷ 3 ∷ []) (tag_of Turn.the_type t) → record { answer = t; out = (tt, in', output) } ≡ step_of (plain answer_to) s tt most input output
+  unanswered : OneOf (1 ∷ 2 ∷ 3 ∷ []) (tag_of Turn.the_type t) → record { answer = t; out = (in', output) } ≡ step_of answer_to s most input output
   unanswered other = no_line t other ∙ of_turn
     where
-      no_line : (u : Turn) → OneOf (1 ∷ 2 ∷ 3 ∷ []) (tag_of Turn.the_type u) → record { answer = u; out = (tt, in', output) } ≡ stepped (plain answer_to) s tt u in' output
+      no_line : (u : Turn) → OneOf (1 ∷ 2 ∷ 3 ∷ []) (tag_of Turn.the_type u) → record { answer = u; out = (in', output) } ≡ stepped answer_to u in' output
       no_line (Line from to next) (inl h) = absurd (omega arith)
       no_line (Line from to next) (inr (inl h)) = absurd (omega arith)
       no_line (Line from to next) (inr (inr h)) = absurd (omega arith)

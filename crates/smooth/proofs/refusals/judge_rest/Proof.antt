@@ -8,8 +8,7 @@ use Rattle.point.specs.declared.refusal.Refusal.TheVariants.{BadFlags, BadSettin
 use Rattle.smooth.specs.declared.scheme.Settings.{Settings}
 use Rattle.point.specs.declared.refusal.Verdict.TheVariants.{Fine, Refused}
 use Rattle.point.specs.Outcomes.{verdict}
-use Rattle.point.specs.Limits.{bad_flags}
-use Rattle.smooth.specs.Calls.{bad_settings, too_short}
+use Rattle.smooth.specs.Calls.{bad_flags, bad_settings, too_short}
 use Rattle.smooth.specs.inside.Parts.{rest_refusal}
 use Rattle.smooth.proofs.refusals.judge_rest.Statement.{statement}
 use Rattle.smooth.proofs.refusals.judge_rest.Tie as tie

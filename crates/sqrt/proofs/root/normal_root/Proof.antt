@@ -10,8 +10,8 @@ pub normal_root_spec : {M : Type 1} → statement M
 normal_root_spec =
     tie.close
     (tie.spec
-    (λ c. search laws)  -- mul-result
-    (λ c. search laws)  -- shl-rounded-root
-    (λ c κs. search laws)  -- rounded-root-requires
-    (λ c. search laws)  -- add-result
+    (λ c. search laws)  -- overflow_mul-result
+    (λ c. search laws)  -- overflow_shl-m
+    (λ c κs. search laws)  -- rounded_root-requires
+    (λ c. search laws)  -- overflow_add-result
     (λ c. search laws))  -- returns

@@ -11,11 +11,11 @@ use Rattle.sqrt.proofs.whole.BitByBit.{Tried, left_small, bit_positive, is_set, 
 use Rattle.sqrt.proofs.root.rounded_root.Statement.{statement}
 use Rattle.sqrt.proofs.root.rounded_root.Tie as tie
 
-abbrev invariant-loop : tie.invariant-loop
-invariant-loop n twice₀ left₀ bit₀ twice left bit = (twice + 2 * bit ≤ 2 ^ 54) × Tried (n * 2 ^ 52) twice left bit
+abbrev invariant-loop-bit : tie.invariant-loop-bit
+invariant-loop-bit n twice₀ left₀ bit₀ twice left bit = (twice + 2 * bit ≤ 2 ^ 54) × Tried (n * 2 ^ 52) twice left bit
 
-abbrev decreases-loop : tie.decreases-loop
-decreases-loop n twice₀ left₀ bit₀ twice left bit = bit
+abbrev decreases-loop-bit : tie.decreases-loop-bit
+decreases-loop-bit n twice₀ left₀ bit₀ twice left bit = bit
 
 -- before the first turn: the leading bit is set
 start : (n : ℕ) → 2 ^ 52 ≤ n → n < 2 ^ 54 → Tried (n * 2 ^ 52) (2 ^ 53) (n - 2 ^ 52) (2 ^ 52)
@@ -73,18 +73,18 @@ pub rounded_root_spec : {M : Type 1} → statement M
 rounded_root_spec =
     tie.close
     (tie.spec
-    invariant-loop
-    decreases-loop
-    (λ c. search laws)  -- mul-twice
-    (λ c. search laws)  -- sub-left
-    (λ c. search laws)  -- loop-holds
-    (λ c. search laws)  -- mul-left
-    (λ c. search laws)  -- add-next
-    (λ c. search laws)  -- add-twice
-    (λ c. search laws)  -- loop-less
-    (λ c. search laws)  -- loop-again
-    (λ c. search laws)  -- loop-less-2
-    (λ c. search laws)  -- loop_again_2
-    (λ c. search laws)  -- add-result
-    (λ c. search laws)  -- returns
-    (λ c. search laws))  -- returns_2
+    invariant-loop-bit
+    decreases-loop-bit
+    (λ c. search laws)  -- overflow_mul-twice
+    (λ c. search laws)  -- overflow_sub-left
+    (λ c. search laws)  -- loop-bit-init
+    (λ c. search laws)  -- overflow_mul-left
+    (λ c. search laws)  -- overflow_add-next
+    (λ c. search laws)  -- overflow_add-twice
+    (λ c. search laws)  -- loop-bit-smaller-then-next-left
+    (λ c. search laws)  -- loop-bit-preserved-then-next-left
+    (λ c. search laws)  -- loop-bit-smaller
+    (λ c. search laws)  -- loop-bit-preserved
+    (λ c. search laws)  -- overflow_add-result
+    (λ c. search laws)  -- returns-then-root-left
+    (λ c. search laws))  -- returns-else-root-left

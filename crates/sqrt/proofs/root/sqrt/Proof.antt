@@ -10,7 +10,7 @@ pub sqrt_spec : {M : Type 1} → statement M
 sqrt_spec =
     tie.close
     (tie.spec
-    (λ c κs. search laws)  -- to-bits-requires
-    (λ c κs. search laws)  -- sqrt-bits-requires
-    (λ c κs. search laws)  -- from-bits-requires
+    (λ c κs. search laws)  -- to_bits-requires
+    (λ c κs. search laws)  -- sqrt_bits-requires
+    (λ c κs. search laws)  -- from_bits-requires
     (λ c. search laws))  -- returns

@@ -38,12 +38,12 @@ pub sqrt_bits_spec : {M : Type 1} → statement M
 sqrt_bits_spec =
     tie.close
     (tie.spec
-    (λ c. search laws)  -- returns
-    (λ c. search laws)  -- returns_2
-    (λ c. search laws)  -- returns_3
-    (λ c κs. search laws)  -- subnormal-root-requires
-    (λ c. search laws)  -- returns-4
-    (λ c. search laws)  -- add-normal-root
-    (λ c. search laws)  -- add-normal-root-2
-    (λ c κs. search laws)  -- normal-root-requires
-    (λ c. search laws))  -- returns_5
+    (λ c. search laws)  -- returns-then-b-eq0
+    (λ c. search laws)  -- returns-then-b-eq-INFINITY
+    (λ c. search laws)  -- returns-then-b-gt-INFINITY
+    (λ c κs. search laws)  -- subnormal_root-requires
+    (λ c. search laws)  -- returns-then-field-eq0
+    (λ c. search laws)  -- overflow_add-digits
+    (λ c. search laws)  -- overflow_add-field
+    (λ c κs. search laws)  -- normal_root-requires
+    (λ c. search laws))  -- returns

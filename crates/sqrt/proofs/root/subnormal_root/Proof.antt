@@ -76,10 +76,10 @@ pub subnormal_root_spec : {M : Type 1} → statement M
 subnormal_root_spec =
     tie.close
     (tie.spec
-    (λ c. search laws)  -- sub-up
-    (λ c. search laws)  -- cast-normal-root
-    (λ c. search laws)  -- shl-normal-root
-    (λ c. search laws)  -- cast-normal-root-2
-    (λ c. search laws)  -- sub-normal-root
-    (λ c κs. search laws)  -- normal-root-requires
+    (λ c. search laws)  -- overflow_sub-up
+    (λ c. search laws)  -- overflow_cast-up
+    (λ c. search laws)  -- overflow_shl-digits
+    (λ c. search laws)  -- overflow_cast-up-2
+    (λ c. search laws)  -- overflow_sub-up-2
+    (λ c κs. search laws)  -- normal_root-requires
     (λ c. search laws))  -- returns

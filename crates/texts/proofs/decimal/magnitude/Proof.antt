@@ -10,9 +10,9 @@ pub magnitude_spec : {M : Type 1} → statement M
 magnitude_spec =
     tie.close
     (tie.spec
-    (λ c. search laws)  -- sub-result
-    (λ c. search laws)  -- cast-result
-    (λ c. search laws)  -- add-result
-    (λ c. search laws)  -- returns
-    (λ c. search laws)  -- cast-result-2
-    (λ c. search laws))  -- returns_2
+    (λ c. search laws)  -- overflow_sub-result
+    (λ c. search laws)  -- overflow_cast-result
+    (λ c. search laws)  -- overflow_add-result
+    (λ c. search laws)  -- returns-then-n-lt0
+    (λ c. search laws)  -- overflow_cast-result-2
+    (λ c. search laws))  -- returns

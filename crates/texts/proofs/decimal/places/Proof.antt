@@ -10,12 +10,12 @@ use Rattle.texts.specs.Text.{decimal_digits, natural_text}
 use Rattle.texts.proofs.decimal.places.Statement.{statement}
 use Rattle.texts.proofs.decimal.places.Tie as tie
 
-abbrev invariant-loop : tie.invariant-loop
-invariant-loop n k₀ rest₀ k rest =
+abbrev invariant-loop-rest : tie.invariant-loop-rest
+invariant-loop-rest n k₀ rest₀ k rest =
     (k ≤ 20) × (rest < 10 ^ (21 - k)) × (length (natural_text n) + 1 ≡ k + length (decimal_digits (21 - k) rest))
 
-abbrev decreases-loop : tie.decreases-loop
-decreases-loop n k₀ rest₀ k rest = rest
+abbrev decreases-loop-rest : tie.decreases-loop-rest
+decreases-loop-rest n k₀ rest₀ k rest = rest
 
 -- two digits or more
 some_left : (m rest : ℕ) → rest < 10 ^ suc m → 10 ≤ rest → 0 < m
@@ -58,10 +58,10 @@ pub places_spec : {M : Type 1} → statement M
 places_spec =
     tie.close
     (tie.spec
-    invariant-loop
-    decreases-loop
-    (λ c. search laws)  -- loop-holds
-    (λ c. search laws)  -- add-k
-    (λ c. search laws)  -- loop-less
-    (λ c. search laws)  -- loop-again
+    invariant-loop-rest
+    decreases-loop-rest
+    (λ c. search laws)  -- loop-rest-init
+    (λ c. search laws)  -- overflow_add-k
+    (λ c. search laws)  -- loop-rest-smaller
+    (λ c. search laws)  -- loop-rest-preserved
     (λ c. search laws))  -- returns

@@ -30,10 +30,10 @@ pub put_decimal_spec : {M : Type 1} → statement M
 put_decimal_spec =
     tie.close
     (tie.spec
-    (λ c κs. search laws)  -- magnitude-requires
-    (λ c κs. search laws)  -- put-negative-requires
-    (λ c. search laws)  -- same-length
-    (λ c. search laws)  -- returns
-    (λ c κs. search laws)  -- put-natural-requires
-    (λ c. search laws)  -- same-length-2
-    (λ c. search laws))  -- returns_2
+    (λ c κs. search laws)  -- magnitude-m-requires
+    (λ c κs. search laws)  -- put_negative-requires
+    (λ c. search laws)  -- shape_of-out-then-n-lt0
+    (λ c. search laws)  -- returns-then-n-lt0
+    (λ c κs. search laws)  -- put_natural-requires
+    (λ c. search laws)  -- shape_of-out
+    (λ c. search laws))  -- returns

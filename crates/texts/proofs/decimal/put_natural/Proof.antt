@@ -20,6 +20,6 @@ put_natural_spec =
     tie.close
     (tie.spec
     (λ c κs. search laws)  -- places-requires
-    (λ c κs. search laws)  -- put-digits-requires
-    (λ c. search laws)  -- same-length
+    (λ c κs. search laws)  -- put_digits-requires
+    (λ c. search laws)  -- shape_of-out
     (λ c. search laws))  -- returns

@@ -56,14 +56,14 @@ pub put_negative_spec : {M : Type 1} → statement M
 put_negative_spec =
     tie.close
     (tie.spec
-    (λ c κs. search laws)  -- places-requires
-    (λ c. search laws)  -- add-has-room
-    (λ c κs. search laws)  -- has-room-requires
-    (λ c. search laws)  -- slice-write-out
-    (λ c. search laws)  -- add-spell
+    (λ c κs. search laws)  -- places-k-requires
+    (λ c. search laws)  -- overflow_add-k
+    (λ c κs. search laws)  -- has_room-requires
+    (λ c. search laws)  -- bounds-out-at
+    (λ c. search laws)  -- overflow_add-at
     (λ c κs. search laws)  -- spell-requires
-    (λ c. search laws)  -- add-result
-    (λ c. search laws)  -- add-result-2
-    (λ c. search laws)  -- same-length
-    (λ c. search laws)  -- returns
-    (λ c. search laws))  -- returns_2
+    (λ c. search laws)  -- overflow_add-result
+    (λ c. search laws)  -- overflow_add-result-then-has_room
+    (λ c. search laws)  -- shape_of-out-then-has_room
+    (λ c. search laws)  -- returns-then-has_room
+    (λ c. search laws))  -- returns

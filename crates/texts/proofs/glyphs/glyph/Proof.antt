@@ -19,9 +19,9 @@ pub glyph_spec : {M : Type 1} → statement M
 glyph_spec =
     tie.close
     (tie.spec
-    (λ c. search laws)  -- cast-result
-    (λ c. search laws)  -- add-result
-    (λ c. search laws)  -- cast-result-2
-    (λ c. search laws)  -- add-result-2
-    (λ c. search laws)  -- returns
-    (λ c. search laws))  -- returns_2
+    (λ c. search laws)  -- overflow_cast-result
+    (λ c. search laws)  -- overflow_add-result
+    (λ c. search laws)  -- overflow_cast-result-else-d-lt10
+    (λ c. search laws)  -- overflow_add-result-else-d-lt10
+    (λ c. search laws)  -- returns-then-d-lt10
+    (λ c. search laws))  -- returns-else-d-lt10

@@ -10,11 +10,11 @@ use borrow.Author.Rules.{rules}
 use Rattle.texts.proofs.put.copy.Statement.{statement}
 use Rattle.texts.proofs.put.copy.Tie as tie
 
-abbrev invariant-loop : tie.invariant-loop
-invariant-loop text out₀ at i₀ out i = (i ≤ length text) × (length out ≡ length out₀) × (out ≡ paste out₀ at text i)
+abbrev invariant-loop-i : tie.invariant-loop-i
+invariant-loop-i text out₀ at i₀ out i = (i ≤ length text) × (length out ≡ length out₀) × (out ≡ paste out₀ at text i)
 
-abbrev decreases-loop : tie.decreases-loop
-decreases-loop text out₀ at i₀ out i = length text - i
+abbrev decreases-loop-i : tie.decreases-loop-i
+decreases-loop-i text out₀ at i₀ out i = length text - i
 
 module _ (text out₀ out : List ℕ) (at i : ℕ) (inv : out ≡ paste out₀ at text i) where
   one_more : i < length text → at + length text ≤ length out₀ → set out (at + i) (get_or text i 0) ≡ paste out₀ at text (i + 1)
@@ -29,14 +29,14 @@ pub copy_spec : {M : Type 1} → statement M
 copy_spec =
     tie.close
     (tie.spec
-    invariant-loop
-    decreases-loop
-    (λ c. search laws)  -- loop-holds
-    (λ c. search laws)  -- shared-slice-read-out
-    (λ c. search laws)  -- add-out
-    (λ c. search laws)  -- slice-write-out
-    (λ c. search laws)  -- add-i
-    (λ c. search laws)  -- loop-less
-    (λ c. search laws)  -- loop-again
-    (λ c. search laws)  -- same-length
+    invariant-loop-i
+    decreases-loop-i
+    (λ c. search laws)  -- loop-i-init
+    (λ c. search laws)  -- bounds-text-i
+    (λ c. search laws)  -- overflow_add-out
+    (λ c. search laws)  -- bounds-out-at
+    (λ c. search laws)  -- overflow_add-i
+    (λ c. search laws)  -- loop-i-smaller
+    (λ c. search laws)  -- loop-i-preserved
+    (λ c. search laws)  -- shape_of-out
     (λ c. search laws))  -- returns

@@ -25,5 +25,5 @@ pub has_room_spec : {M : Type 1} → statement M
 has_room_spec =
     tie.close
     (tie.spec
-    (λ c. search laws)  -- returns
-    (λ c. search laws))  -- returns_2
+    (λ c. search laws)  -- returns-then-len-at
+    (λ c. search laws))  -- returns

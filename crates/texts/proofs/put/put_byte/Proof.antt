@@ -27,8 +27,8 @@ pub put_byte_spec : {M : Type 1} → statement M
 put_byte_spec =
     tie.close
     (tie.spec
-    (λ c. search laws)  -- slice-write-out
-    (λ c. search laws)  -- add-result
-    (λ c. search laws)  -- same-length
-    (λ c. search laws)  -- returns
-    (λ c. search laws))  -- returns_2
+    (λ c. search laws)  -- bounds-out-at
+    (λ c. search laws)  -- overflow_add-result
+    (λ c. search laws)  -- shape_of-out-then-at-out
+    (λ c. search laws)  -- returns-then-at-out
+    (λ c. search laws))  -- returns

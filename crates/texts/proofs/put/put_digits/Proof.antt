@@ -10,9 +10,9 @@ pub put_digits_spec : {M : Type 1} → statement M
 put_digits_spec =
     tie.close
     (tie.spec
-    (λ c κs. search laws)  -- has-room-requires
+    (λ c κs. search laws)  -- has_room-requires
     (λ c κs. search laws)  -- spell-requires
-    (λ c. search laws)  -- add-result
-    (λ c. search laws)  -- same-length
-    (λ c. search laws)  -- returns
-    (λ c. search laws))  -- returns_2
+    (λ c. search laws)  -- overflow_add-result
+    (λ c. search laws)  -- shape_of-out-then-has_room
+    (λ c. search laws)  -- returns-then-has_room
+    (λ c. search laws))  -- returns

@@ -22,9 +22,9 @@ pub put_hex_spec : {M : Type 1} → statement M
 put_hex_spec =
     tie.close
     (tie.spec
-    (λ c κs. search laws)  -- put-digits-requires
-    (λ c. search laws)  -- same-length
-    (λ c. search laws)  -- returns
-    (λ c κs. search laws)  -- put-digits-requires-2
-    (λ c. search laws)  -- same-length-2
-    (λ c. search laws))  -- returns_2
+    (λ c κs. search laws)  -- put_digits-requires
+    (λ c. search laws)  -- shape_of-out-then-digits-lt16
+    (λ c. search laws)  -- returns-then-digits-lt16
+    (λ c κs. search laws)  -- put_digits-requires-2
+    (λ c. search laws)  -- shape_of-out
+    (λ c. search laws))  -- returns

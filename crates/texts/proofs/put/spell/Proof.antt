@@ -12,13 +12,13 @@ use Rattle.texts.specs.Text.{glyph_of, low_digits}
 use Rattle.texts.proofs.put.spell.Statement.{statement}
 use Rattle.texts.proofs.put.spell.Tie as tie
 
-abbrev invariant-loop : tie.invariant-loop
-invariant-loop n base k out₀ at i₀ rest₀ out i rest =
+abbrev invariant-loop-i : tie.invariant-loop-i
+invariant-loop-i n base k out₀ at i₀ rest₀ out i rest =
     (at ≤ i) × (i ≤ at + k) × (length out ≡ length out₀) × (take at out ≡ take at out₀) ×
     (low_digits base (i - at) rest ++ drop i out ≡ low_digits base k n ++ drop (at + k) out₀)
 
-abbrev decreases-loop : tie.decreases-loop
-decreases-loop n base k out₀ at i₀ rest₀ out i rest = i
+abbrev decreases-loop-i : tie.decreases-loop-i
+decreases-loop-i n base k out₀ at i₀ rest₀ out i rest = i
 
 none_yet : (base k n at : ℕ) (out : List ℕ) → low_digits base (at + k - at) n ++ drop (at + k) out ≡ low_digits base k n ++ drop (at + k) out
 none_yet base k n at out = let e : at + k - at ≡ k = omega arith in rw e
@@ -62,16 +62,16 @@ pub spell_spec : {M : Type 1} → statement M
 spell_spec =
     tie.close
     (tie.spec
-    invariant-loop
-    decreases-loop
-    (λ c. search laws)  -- add-i
-    (λ c. search laws)  -- loop-holds
-    (λ c. search laws)  -- sub-i
-    (λ c. search laws)  -- rem-glyph
+    invariant-loop-i
+    decreases-loop-i
+    (λ c. search laws)  -- overflow_add-i
+    (λ c. search laws)  -- loop-i-init
+    (λ c. search laws)  -- overflow_sub-i
+    (λ c. search laws)  -- nonzero_rem-rest
     (λ c κs. search laws)  -- glyph-requires
-    (λ c. search laws)  -- slice-write-out
-    (λ c. search laws)  -- div-rest
-    (λ c. search laws)  -- loop-less
-    (λ c. search laws)  -- loop-again
-    (λ c. search laws)  -- same-length
+    (λ c. search laws)  -- bounds-out-i
+    (λ c. search laws)  -- nonzero_div-rest
+    (λ c. search laws)  -- loop-i-smaller
+    (λ c. search laws)  -- loop-i-preserved
+    (λ c. search laws)  -- shape_of-out
     (λ c. search laws))  -- returns

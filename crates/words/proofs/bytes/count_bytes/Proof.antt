@@ -14,11 +14,11 @@ use Rattle.words.proofs.bytes.Pairs.{no_digits, one_digit, a_pair, no_pair}
 use Rattle.words.proofs.bytes.count_bytes.Statement.{statement}
 use Rattle.words.proofs.bytes.count_bytes.Tie as tie
 
-abbrev invariant-loop : tie.invariant-loop
-invariant-loop word n₀ at₀ n at = (at ≤ length word) × (n ≤ at) × (count_of (bytes_of word) ≡ plus n (count_of (bytes_of (drop at word))))
+abbrev invariant-loop-at : tie.invariant-loop-at
+invariant-loop-at word n₀ at₀ n at = (at ≤ length word) × (n ≤ at) × (count_of (bytes_of word) ≡ plus n (count_of (bytes_of (drop at word))))
 
-abbrev decreases-loop : tie.decreases-loop
-decreases-loop word n₀ at₀ n at = length word - at
+abbrev decreases-loop-at : tie.decreases-loop-at
+decreases-loop-at word n₀ at₀ n at = length word - at
 
 module _ (w : List ℕ) (n at : ℕ) (inv : count_of (bytes_of w) ≡ plus n (count_of (bytes_of (drop at w)))) where
   all : length w ≤ at → Read.Is n ≡ count_of (bytes_of w)
@@ -43,15 +43,15 @@ pub count_bytes_spec : {M : Type 1} → statement M
 count_bytes_spec =
     tie.close
     (tie.spec
-    invariant-loop
-    decreases-loop
-    (λ c. search laws)  -- loop-holds
-    (λ c. search laws)  -- add-if1
-    (λ c. search laws)  -- returns
+    invariant-loop-at
+    decreases-loop-at
+    (λ c. search laws)  -- loop-at-init
+    (λ c. search laws)  -- overflow_add-at
+    (λ c. search laws)  -- returns-then-word-at
     (λ c κs. search laws)  -- pair-requires
-    (λ c. search laws)  -- returns_2
-    (λ c. search laws)  -- add-n
-    (λ c. search laws)  -- add-at
-    (λ c. search laws)  -- loop-less
-    (λ c. (search rules, search rules, again _ _ _ c.before.before.before.before.loop.invariant.2 _ c.before.pair.ensures c.before.before.if1.false c.if2.false))  -- loop-again
-    (λ c. search laws))  -- returns_3
+    (λ c. search laws)  -- returns-then-pair-gt255
+    (λ c. search laws)  -- overflow_add-n
+    (λ c. search laws)  -- overflow_add-at-in-loop-at
+    (λ c. search laws)  -- loop-at-smaller
+    (λ c. (search rules, search rules, again _ _ _ c.before.before.before.before.loop-at.invariant.2 _ c.before.pair.ensures c.before.before.if-word-at.false c.if-pair-gt255.false))  -- loop-at-preserved
+    (λ c. search laws))  -- returns

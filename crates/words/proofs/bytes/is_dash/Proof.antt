@@ -24,6 +24,6 @@ pub is_dash_spec : {M : Type 1} → statement M
 is_dash_spec =
     tie.close
     (tie.spec
-    (λ c. search laws)  -- returns
-    (λ c. search laws)  -- shared-slice-read-result
-    (λ c. search laws))  -- returns_2
+    (λ c. search laws)  -- returns-then-word-ne1
+    (λ c. search laws)  -- bounds-word-0
+    (λ c. search laws))  -- returns

@@ -28,13 +28,13 @@ pub pair_spec : {M : Type 1} → statement M
 pair_spec =
     tie.close
     (tie.spec
-    (λ c. search laws)  -- shared-slice-read-digit
-    (λ c κs. search laws)  -- digit-requires
-    (λ c. search laws)  -- add-digit
-    (λ c. search laws)  -- shared-slice-read-digit-2
-    (λ c κs. search laws)  -- digit-requires-2
-    (λ c. search laws)  -- returns
-    (λ c. search laws)  -- returns_2
-    (λ c. search laws)  -- mul-result
-    (λ c. search laws)  -- add-result
-    (λ c. search laws))  -- returns_3
+    (λ c. search laws)  -- bounds-word-at
+    (λ c κs. search laws)  -- digit-high-requires
+    (λ c. search laws)  -- overflow_add-at
+    (λ c. search laws)  -- bounds-word-at-2
+    (λ c κs. search laws)  -- digit-low-requires
+    (λ c. search laws)  -- returns-then-high-ge16
+    (λ c. search laws)  -- returns-then-low-ge16
+    (λ c. search laws)  -- overflow_mul-result
+    (λ c. search laws)  -- overflow_add-result
+    (λ c. search laws))  -- returns

@@ -6,18 +6,18 @@ use Rattle.words.proofs.bytes.read_bytes.Tie as tie
 
 ruleset laws = (read_none, read_short, read_all, read_room, rules)
 
-returns_3 : tie.Need-returns-3
+returns_3 : tie.Need-returns
 returns_3 c = search laws
 
 pub read_bytes_spec : {M : Type 1} → statement M
 read_bytes_spec =
     tie.close
     (tie.spec
-    (λ c κs. search laws)  -- count-bytes-requires
-    (λ c. search laws)  -- enum-known-n
-    (λ c. search laws)  -- enum-told
-    (λ c. search laws)  -- returns
-    (λ c. search laws)  -- returns_2
-    (λ c κs. search laws)  -- write-bytes-requires
-    (λ c. search laws)  -- same-length
+    (λ c κs. search laws)  -- count_bytes-requires
+    (λ c. search laws)  -- enum_known-n
+    (λ c. search laws)  -- enum_told-1
+    (λ c. search laws)  -- returns-in_default
+    (λ c. search laws)  -- returns-then-to-n
+    (λ c κs. search laws)  -- write_bytes-requires
+    (λ c. search laws)  -- shape_of-to
     returns_3)

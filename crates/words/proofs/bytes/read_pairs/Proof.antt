@@ -29,9 +29,9 @@ pub read_pairs_spec : {M : Type 1} → statement M
 read_pairs_spec =
     tie.close
     (tie.spec
-    (λ c κs. search laws)  -- is-dash-requires
-    (λ c. search laws)  -- returns
-    (λ c. search laws)  -- returns_2
-    (λ c κs. search laws)  -- read-bytes-requires
-    (λ c. search laws)  -- same-length
-    (λ c. search laws))  -- returns_3
+    (λ c κs. search laws)  -- is_dash-requires
+    (λ c. search laws)  -- returns-then-is_dash
+    (λ c. search laws)  -- returns-then-word-eq0
+    (λ c κs. search laws)  -- read_bytes-requires
+    (λ c. search laws)  -- shape_of-to
+    (λ c. search laws))  -- returns

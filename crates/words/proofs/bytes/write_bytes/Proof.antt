@@ -19,13 +19,13 @@ use Rattle.words.proofs.bytes.Pairs.{no_digits, one_digit, a_pair, no_pair}
 use Rattle.words.proofs.bytes.write_bytes.Statement.{statement}
 use Rattle.words.proofs.bytes.write_bytes.Tie as tie
 
-abbrev invariant-loop : tie.invariant-loop
-invariant-loop word to₀ n₀ at₀ to n at =
+abbrev invariant-loop-at : tie.invariant-loop-at
+invariant-loop-at word to₀ n₀ at₀ to n at =
     (at ≤ length word) × (n ≤ at) × (length to ≡ length to₀) × Room (bytes_of (drop at word)) n (length to) ×
     (laid (bytes_of word) to₀ ≡ take n to ++ laid (bytes_of (drop at word)) (drop n to))
 
-abbrev decreases-loop : tie.decreases-loop
-decreases-loop word to₀ n₀ at₀ to n at = length word - at
+abbrev decreases-loop-at : tie.decreases-loop-at
+decreases-loop-at word to₀ n₀ at₀ to n at = length word - at
 
 module _ (w to₀ to : List ℕ) (n at : ℕ) (room : Room (bytes_of (drop at w)) n (length to)) where
   all : laid (bytes_of w) to₀ ≡ take n to ++ laid (bytes_of (drop at w)) (drop n to) → at ≤ length w → length w ≤ at + 1 → to ≡ laid (bytes_of w) to₀
@@ -67,16 +67,16 @@ pub write_bytes_spec : {M : Type 1} → statement M
 write_bytes_spec =
     tie.close
     (tie.spec
-    invariant-loop
-    decreases-loop
-    (λ c. search laws)  -- loop-holds
-    (λ c. search laws)  -- add-loop
+    invariant-loop-at
+    decreases-loop-at
+    (λ c. search laws)  -- loop-at-init
+    (λ c. search laws)  -- overflow_add-at
     (λ c κs. search laws)  -- pair-requires
-    (λ c. search laws)  -- cast-to
-    (λ c. search laws)  -- slice-write-to
-    (λ c. search laws)  -- add-n
-    (λ c. search laws)  -- add-at
-    (λ c. search laws)  -- loop-less
-    (λ c. (search laws, search laws, search laws, search laws, search laws))  -- loop-again
-    (λ c. search laws)  -- same-length
+    (λ c. search laws)  -- overflow_cast-to
+    (λ c. search laws)  -- bounds-to-n
+    (λ c. search laws)  -- overflow_add-n
+    (λ c. search laws)  -- overflow_add-at-in-loop-at
+    (λ c. search laws)  -- loop-at-smaller
+    (λ c. (search laws, search laws, search laws, search laws, search laws))  -- loop-at-preserved
+    (λ c. search laws)  -- shape_of-to
     (λ c. search laws))  -- returns

@@ -30,9 +30,9 @@ pub from_zero_spec : {M : Type 1} → statement M
 from_zero_spec =
     tie.close
     (tie.spec
-    (λ c. search laws)  -- enum-known-n
-    (λ c. search laws)  -- enum-told
-    (λ c. search laws)  -- returns
-    (λ c. search laws)  -- returns_2
-    (λ c. search laws)  -- cast-t4
-    (λ c. search laws))  -- returns_3
+    (λ c. search laws)  -- enum_known-n
+    (λ c. search laws)  -- enum_told-1
+    (λ c. search laws)  -- returns-in_default
+    (λ c. search laws)  -- returns-then-v-gt2147483647
+    (λ c. search laws)  -- overflow_cast-result
+    (λ c. search laws))  -- returns

@@ -33,14 +33,14 @@ pub read_integer_spec : {M : Type 1} → statement M
 read_integer_spec =
     tie.close
     (tie.spec
-    (λ c. search laws)  -- returns
-    (λ c. search laws)  -- shared-slice-read-if2
-    (λ c. search laws)  -- sub-read-natural
-    (λ c. search laws)  -- part-read-natural-start
-    (λ c. search laws)  -- part-read-natural-end
-    (λ c κs. search laws)  -- read-natural-requires
-    (λ c κs. search laws)  -- below-zero-requires
-    (λ c. search laws)  -- returns_2
-    (λ c κs. search laws)  -- read-natural-requires-2
-    (λ c κs. search laws)  -- from-zero-requires
-    (λ c. search laws))  -- returns_3
+    (λ c. search laws)  -- returns-then-word-eq0
+    (λ c. search laws)  -- bounds-word-0
+    (λ c. search laws)  -- slice_bounds-read_natural-count
+    (λ c. search laws)  -- slice_bounds-read_natural-start
+    (λ c. search laws)  -- slice_bounds-read_natural-end
+    (λ c κs. search laws)  -- read_natural-requires
+    (λ c κs. search laws)  -- below_zero-requires
+    (λ c. search laws)  -- returns-then-word-eq45
+    (λ c κs. search laws)  -- read_natural-requires-2
+    (λ c κs. search laws)  -- from_zero-requires
+    (λ c. search laws))  -- returns

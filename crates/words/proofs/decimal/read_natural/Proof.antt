@@ -19,12 +19,12 @@ use Rattle.words.proofs.Numerals.{passed, said}
 use Rattle.words.proofs.decimal.read_natural.Statement.{statement}
 use Rattle.words.proofs.decimal.read_natural.Tie as tie
 
-abbrev invariant-loop : tie.invariant-loop
-invariant-loop word n₀ i₀ n i =
+abbrev invariant-loop-i : tie.invariant-loop-i
+invariant-loop-i word n₀ i₀ n i =
     (i ≤ length word) × (n < 18446744073709551616) × (all_digits 10 word ≡ all_digits 10 (drop i word)) × (value 10 0 word ≡ value 10 n (drop i word))
 
-abbrev decreases-loop : tie.decreases-loop
-decreases-loop word n₀ i₀ n i = length word - i
+abbrev decreases-loop-i : tie.decreases-loop-i
+decreases-loop-i word n₀ i₀ n i = length word - i
 
 -- there is room for one digit more
 module _ (n d : ℕ) (small : d < 10) (room : n ≤ (18446744073709551615 - d) / 10) where
@@ -82,18 +82,18 @@ pub read_natural_spec : {M : Type 1} → statement M
 read_natural_spec =
     tie.close
     (tie.spec
-    invariant-loop
-    decreases-loop
-    (λ c. search laws)  -- returns
-    (λ c. search laws)  -- loop-holds
-    (λ c. search laws)  -- shared-slice-read-digit
-    (λ c κs. search laws)  -- digit-requires
-    (λ c. search laws)  -- returns_2
-    (λ c. search laws)  -- sub-if3
-    (λ c. search laws)  -- returns_3
-    (λ c. search laws)  -- mul-n
-    (λ c. search laws)  -- add-n
-    (λ c. search laws)  -- add-i
-    (λ c. search laws)  -- loop-less
-    (λ c. search laws)  -- loop-again
-    (λ c. search laws))  -- returns-4
+    invariant-loop-i
+    decreases-loop-i
+    (λ c. search laws)  -- returns-then-word-eq0
+    (λ c. search laws)  -- loop-i-init
+    (λ c. search laws)  -- bounds-word-i
+    (λ c κs. search laws)  -- digit-d-requires
+    (λ c. search laws)  -- returns-then-d-ge10
+    (λ c. search laws)  -- overflow_sub-d
+    (λ c. search laws)  -- returns-then-d-n
+    (λ c. search laws)  -- overflow_mul-n
+    (λ c. search laws)  -- overflow_add-n
+    (λ c. search laws)  -- overflow_add-i
+    (λ c. search laws)  -- loop-i-smaller
+    (λ c. search laws)  -- loop-i-preserved
+    (λ c. search laws))  -- returns

@@ -47,15 +47,15 @@ pub digit_spec : {M : Type 1} → statement M
 digit_spec =
     tie.close
     (tie.spec
-    (λ c. search laws)  -- returns
-    (λ c. search laws)  -- cast-result
-    (λ c. search laws)  -- returns_2
-    (λ c. search laws)  -- returns_3
-    (λ c. search laws)  -- cast-result-2
-    (λ c. search laws)  -- add-result
-    (λ c. search laws)  -- returns-4
-    (λ c. search laws)  -- returns_5
-    (λ c. search laws)  -- cast-result-3
-    (λ c. search laws)  -- add-result-2
-    (λ c. search laws)  -- returns_6
-    (λ c. search laws))  -- returns_7
+    (λ c. search laws)  -- returns-then-b-lt48
+    (λ c. search laws)  -- overflow_cast-result
+    (λ c. search laws)  -- returns-then-b-le57
+    (λ c. search laws)  -- returns-then-b-lt65
+    (λ c. search laws)  -- overflow_cast-result-then-b-le70
+    (λ c. search laws)  -- overflow_add-result
+    (λ c. search laws)  -- returns-then-b-le70
+    (λ c. search laws)  -- returns-then-b-lt97
+    (λ c. search laws)  -- overflow_cast-result-then-b-le102
+    (λ c. search laws)  -- overflow_add-result-then-b-le102
+    (λ c. search laws)  -- returns-then-b-le102
+    (λ c. search laws))  -- returns

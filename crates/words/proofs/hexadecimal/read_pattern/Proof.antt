@@ -24,6 +24,6 @@ pub read_pattern_spec : {M : Type 1} → statement M
 read_pattern_spec =
     tie.close
     (tie.spec
-    (λ c. search laws)  -- returns
-    (λ c κs. search laws)  -- read-hex-requires
-    (λ c. search laws))  -- returns_2
+    (λ c. search laws)  -- returns-then-word-ne16
+    (λ c κs. search laws)  -- read_hex-requires
+    (λ c. search laws))  -- returns

@@ -13,11 +13,11 @@ use Rattle.words.specs.Line.{up_to, first_from}
 use Rattle.words.proofs.line.find.Statement.{statement}
 use Rattle.words.proofs.line.find.Tie as tie
 
-abbrev invariant-loop : tie.invariant-loop
-invariant-loop s b from i₀ i = first_from b from s ≡ first_from b i s
+abbrev invariant-loop-i : tie.invariant-loop-i
+invariant-loop-i s b from i₀ i = first_from b from s ≡ first_from b i s
 
-abbrev decreases-loop : tie.decreases-loop
-decreases-loop s b from i₀ i = length s - i
+abbrev decreases-loop-i : tie.decreases-loop-i
+decreases-loop-i s b from i₀ i = length s - i
 
 module _ (s : List ℕ) (b from i : ℕ) (inv : first_from b from s ≡ first_from b i s) where
   passed : i < length s → (get_or s i 0 ≡ b → ⊥) → first_from b from s ≡ first_from b (i + 1) s
@@ -38,12 +38,12 @@ pub find_spec : {M : Type 1} → statement M
 find_spec =
     tie.close
     (tie.spec
-    invariant-loop
-    decreases-loop
-    (λ c. search laws)  -- loop-holds
-    (λ c. search laws)  -- shared-slice-read-if1
-    (λ c. search laws)  -- returns
-    (λ c. search laws)  -- add-i
-    (λ c. search laws)  -- loop-less
-    (λ c. search laws)  -- loop-again
-    (λ c. search laws))  -- returns_2
+    invariant-loop-i
+    decreases-loop-i
+    (λ c. search laws)  -- loop-i-init
+    (λ c. search laws)  -- bounds-s-i
+    (λ c. search laws)  -- returns-then-s-i
+    (λ c. search laws)  -- overflow_add-i
+    (λ c. search laws)  -- loop-i-smaller
+    (λ c. search laws)  -- loop-i-preserved
+    (λ c. search laws))  -- returns

@@ -13,11 +13,11 @@ use Rattle.words.proofs.Splits.{onto_later}
 use Rattle.words.proofs.line.start_of.Statement.{statement}
 use Rattle.words.proofs.line.start_of.Tie as tie
 
-abbrev invariant-loop : tie.invariant-loop
-invariant-loop line k left₀ i₀ left i = (i ≤ length line) × (word_of line k ≡ word_of (drop i line) left)
+abbrev invariant-loop-i : tie.invariant-loop-i
+invariant-loop-i line k left₀ i₀ left i = (i ≤ length line) × (word_of line k ≡ word_of (drop i line) left)
 
-abbrev decreases-loop : tie.decreases-loop
-decreases-loop line k left₀ i₀ left i = length line - i
+abbrev decreases-loop-i : tie.decreases-loop-i
+decreases-loop-i line k left₀ i₀ left i = length line - i
 
 module _ (line : List ℕ) (k left i : ℕ) (inv : word_of line k ≡ word_of (drop i line) left) where
   space : i < length line → (left ≡ 0 → ⊥) → get_or line i 0 ≡ 32 → word_of line k ≡ word_of (drop (i + 1) line) (left - 1)
@@ -53,15 +53,15 @@ pub start_of_spec : {M : Type 1} → statement M
 start_of_spec =
     tie.close
     (tie.spec
-    invariant-loop
-    decreases-loop
-    (λ c. search laws)  -- loop-holds
-    (λ c. search laws)  -- returns
-    (λ c. search laws)  -- shared-slice-read-b
-    (λ c. search laws)  -- add-i
-    (λ c. search laws)  -- sub-left
-    (λ c. search laws)  -- loop-less
-    (λ c. search laws)  -- loop-again
-    (λ c. search laws)  -- loop-less-2
-    (λ c. search laws)  -- loop_again_2
-    (λ c. search laws))  -- returns_2
+    invariant-loop-i
+    decreases-loop-i
+    (λ c. search laws)  -- loop-i-init
+    (λ c. search laws)  -- returns-then-left-eq0
+    (λ c. search laws)  -- bounds-line-i
+    (λ c. search laws)  -- overflow_add-i
+    (λ c. search laws)  -- overflow_sub-left
+    (λ c. search laws)  -- loop-i-smaller-then-b-eq32
+    (λ c. search laws)  -- loop-i-preserved-then-b-eq32
+    (λ c. search laws)  -- loop-i-smaller
+    (λ c. search laws)  -- loop-i-preserved
+    (λ c. search laws))  -- returns

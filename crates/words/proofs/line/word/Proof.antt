@@ -22,9 +22,9 @@ pub word_spec : {M : Type 1} → statement M
 word_spec =
     tie.close
     (tie.spec
-    (λ c κs. search laws)  -- start-of-requires
-    (λ c κs. search laws)  -- find-requires
-    (λ c. search laws)  -- sub-result
-    (λ c. search laws)  -- part-result-start
-    (λ c. search laws)  -- part-result-end
+    (λ c κs. search laws)  -- start_of-from-requires
+    (λ c κs. search laws)  -- find-to-requires
+    (λ c. search laws)  -- slice_bounds-result-count
+    (λ c. search laws)  -- slice_bounds-result-start
+    (λ c. search laws)  -- slice_bounds-result-end
     (λ c. search laws))  -- returns

@@ -14,11 +14,11 @@ use Rattle.words.proofs.Splits.{onto_length, some_part}
 use Rattle.words.proofs.line.words.Statement.{statement}
 use Rattle.words.proofs.line.words.Tie as tie
 
-abbrev invariant-loop : tie.invariant-loop
-invariant-loop line n₀ i₀ n i = (i ≤ length line) × (n ≤ i + 1) × (length (words_of line) + 1 ≡ n + length (words_of (drop i line)))
+abbrev invariant-loop-i : tie.invariant-loop-i
+invariant-loop-i line n₀ i₀ n i = (i ≤ length line) × (n ≤ i + 1) × (length (words_of line) + 1 ≡ n + length (words_of (drop i line)))
 
-abbrev decreases-loop : tie.decreases-loop
-decreases-loop line n₀ i₀ n i = length line - i
+abbrev decreases-loop-i : tie.decreases-loop-i
+decreases-loop-i line n₀ i₀ n i = length line - i
 
 module _ (line : List ℕ) (n i : ℕ) (inv : length (words_of line) + 1 ≡ n + length (words_of (drop i line))) where
   space : i < length line → get_or line i 0 ≡ 32 → length (words_of line) + 1 ≡ n + 1 + length (words_of (drop (i + 1) line))
@@ -41,14 +41,14 @@ pub words_spec : {M : Type 1} → statement M
 words_spec =
     tie.close
     (tie.spec
-    invariant-loop
-    decreases-loop
-    (λ c. search laws)  -- loop-holds
-    (λ c. search laws)  -- shared-slice-read-b
-    (λ c. search laws)  -- add-i
-    (λ c. search laws)  -- add-n
-    (λ c. search laws)  -- loop-less
-    (λ c. search laws)  -- loop-again
-    (λ c. search laws)  -- loop-less-2
-    (λ c. search laws)  -- loop_again_2
+    invariant-loop-i
+    decreases-loop-i
+    (λ c. search laws)  -- loop-i-init
+    (λ c. search laws)  -- bounds-line-i
+    (λ c. search laws)  -- overflow_add-i
+    (λ c. search laws)  -- overflow_add-n
+    (λ c. search laws)  -- loop-i-smaller-then-b-eq32
+    (λ c. search laws)  -- loop-i-preserved-then-b-eq32
+    (λ c. search laws)  -- loop-i-smaller
+    (λ c. search laws)  -- loop-i-preserved
     (λ c. search laws))  -- returns
