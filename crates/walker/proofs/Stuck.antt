@@ -77,13 +77,13 @@ module _ (set : Pixels) (cw : Bool) where
               subst (EndsAt set cw d v e) (sym p.0)
               (turns (ap (taken set cw) (sym p.0) ∙ t ∙ ap some p.1) (λ q. apart d k s (p.1 ∙ q)))
 
-  pub ends_at_run : (w v : Walker) (d e : Way) → EndsAt set cw d v e w → (n : ℕ) × ((m : ℕ) → n ≤ m → run set cw m w d ≡ ends v e)
-  ends_at_run w v d e (turns t h) = (1, by)
+  pub ends_at_run : (d : Way) (v : Walker) (e : Way) (w : Walker) → EndsAt set cw d v e w → (n : ℕ) × ((m : ℕ) → n ≤ m → run set cw m w d ≡ ends v e)
+  ends_at_run d v e w (turns t h) = (1, by)
     where
       by : (m : ℕ) → 1 ≤ m → run set cw m v d ≡ ends v e
       by zero k = absurd (omega arith)
       by (suc m) k = walker_step set cw m v d e false t (other_way d e h)
-  ends_at_run w v d e (goes_on t r) = further (ends_at_run (moved w d) v d e r)
+  ends_at_run d v e w (goes_on t r) = further (ends_at_run d v e (moved w d) r)
     where
       further : (n : ℕ) × ((m : ℕ) → n ≤ m → run set cw m (moved w d) d ≡ ends v e) → (n : ℕ) × ((m : ℕ) → n ≤ m → run set cw m w d ≡ ends v e)
       further s = (suc s.0, by)
@@ -95,23 +95,23 @@ module _ (set : Pixels) (cw : Bool) where
   -- a run ends at one place, and one exit is taken there
   ends_at_one : (w v u : Walker) (d e k : Way) → EndsAt set cw d v e w → EndsAt set cw d u k w → (v ≡ u) × (e ≡ k)
   ends_at_one w v u d e k r s =
-      let a = ends_at_run w v d e r in
-      let b = ends_at_run w u d k s in
+      let a = ends_at_run d v e w r in
+      let b = ends_at_run d u k w s in
       let n = a.0 + b.0 in
       one_end (run set cw n w d) v u e k (a.1 n (omega arith)) (b.1 n (omega arith))
 
   -- ---- the walker after so many runs
 
   module _ (start : PointI32) where
-    end_reached : (w v : Walker) (d e : Way) → Reached set cw start w → EndsAt set cw d v e w → Reached set cw start v × (taken set cw v ≡ some e)
-    end_reached w v d e r (turns t h) = (r, t)
-    end_reached w v d e r (goes_on t s) = end_reached (moved w d) v d e (gone d r t) s
+    end_reached : (d : Way) (v : Walker) (e : Way) (w : Walker) → Reached set cw start w → EndsAt set cw d v e w → Reached set cw start v × (taken set cw v ≡ some e)
+    end_reached d v e w r (turns t h) = (r, t)
+    end_reached d v e w r (goes_on t s) = end_reached d v e (moved w d) (gone d r t) s
 
     runs_reached : (n : ℕ) (w : Walker) (d : Way) → Runs set cw start n w d → Reached set cw start w × (taken set cw w ≡ some d)
     runs_reached n w d (none_yet t) = (begun, t)
     runs_reached n v e (one_more {n = m} {w = w} {d = d} r s) =
         let a = runs_reached m w d r in
-        end_reached (moved w d) v d e (gone d a.0 a.1) s
+        end_reached d v e (moved w d) (gone d a.0 a.1) s
 
     begun_with : (n : ℕ) (w : Walker) (d : Way) → Runs set cw start n w d → (k : Way) × (taken set cw (at_start start) ≡ some k)
     begun_with n w d (none_yet t) = (d, t)

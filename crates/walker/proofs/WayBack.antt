@@ -17,7 +17,7 @@ use Rattle.walker.proofs.exits.Tables.{way_no, Begins, first_cong, back_exit, wa
 
 pub record Came (w : Walker) (d : Way) : Type 0 where
   pub back : w.prev ≡ ahead w.curr (opposite d)
-  pub past : (k : Way) → same_point (ahead w.curr k) w.prev-prev ≡ true → same_point (ahead w.curr k) w.prev ≡ true
+  pub past : (k : Way) → same_point (ahead w.curr k) w.prev_prev ≡ true → same_point (ahead w.curr k) w.prev ≡ true
 
 -- a walker that has not moved, whatever it counts
 abbrev pub stood : PointI32 → ℕ → Walker
@@ -41,7 +41,7 @@ shut false false c h = refl
 
 free_came : (set : Pixels) (w : Walker) (d : Way) → Came w d → (k : Way) → free set w k ≡ (not (same_way k (opposite d)) && exit set w.curr k)
 free_came set w d h k =
-    shut (same_point (ahead w.curr k) w.prev) (same_point (ahead w.curr k) w.prev-prev) (exit set w.curr k) (h.past k)
+    shut (same_point (ahead w.curr k) w.prev) (same_point (ahead w.curr k) w.prev_prev) (exit set w.curr k) (h.past k)
     ∙ ap (λ (b : Bool). not b && exit set w.curr k) (ap (same_point (ahead w.curr k)) h.back ∙ one_way w.curr k (opposite d))
 
 free_stood : (set : Pixels) (p : PointI32) (n : ℕ) (k : Way) → free set (stood p n) k ≡ exit set p k

@@ -71,7 +71,7 @@ order false = left ∷ down ∷ right ∷ up ∷ []
 
 -- "and takes the first exit not leading to `prev` or `prev_prev`"
 abbrev pub free : Pixels → Walker → Way → Bool
-free set w d = not (same_point (ahead w.curr d) w.prev) && not (same_point (ahead w.curr d) w.prev-prev) && exit set w.curr d
+free set w d = not (same_point (ahead w.curr d) w.prev) && not (same_point (ahead w.curr d) w.prev_prev) && exit set w.curr d
 
 unfoldable pub first : (Way → Bool) → List Way → Option Way
 first test [] = none

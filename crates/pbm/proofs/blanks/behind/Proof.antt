@@ -13,11 +13,11 @@ use Rattle.pbm.specs.Header.{white, hash, commented, behind}
 use Rattle.pbm.proofs.blanks.behind.Statement.{statement}
 use Rattle.pbm.proofs.blanks.behind.Tie as tie
 
-abbrev invariant-loop : tie.invariant-loop
-invariant-loop file from comment₀ i₀ comment i = behind false (drop from file) ≡ behind comment (drop i file)
+abbrev invariant-loop-i : tie.invariant-loop-i
+invariant-loop-i file from comment₀ i₀ comment i = behind false (drop from file) ≡ behind comment (drop i file)
 
-abbrev decreases-loop : tie.decreases-loop
-decreases-loop file from comment₀ i₀ comment i = length file - i
+abbrev decreases-loop-i : tie.decreases-loop-i
+decreases-loop-i file from comment₀ i₀ comment i = length file - i
 
 module _ (file : List ℕ) (from i : ℕ) (comment : Bool) (inv : behind false (drop from file) ≡ behind comment (drop i file)) where
   module _ (p : Bool) (says : p ≡ (comment || white (get_or file i 0) || hash (get_or file i 0))) (h : i < length file) where
@@ -39,14 +39,14 @@ pub behind_spec : {M : Type 1} → statement M
 behind_spec =
     tie.close
     (tie.spec
-    invariant-loop
-    decreases-loop
-    (λ c. search laws)  -- loop-holds
-    (λ c. search laws)  -- shared-slice-read-b
+    invariant-loop-i
+    decreases-loop-i
+    (λ c. search laws)  -- loop-i-init
+    (λ c. search laws)  -- bounds-file-i
     (λ c κs. search laws)  -- passed-requires
-    (λ c. search laws)  -- returns
-    (λ c κs. search laws)  -- commented-requires
-    (λ c. search laws)  -- add-i
-    (λ c. search laws)  -- loop-less
-    (λ c. search laws)  -- loop-again
-    (λ c. search laws))  -- returns_2
+    (λ c. search laws)  -- returns-then-not-passed
+    (λ c κs. search laws)  -- commented-comment-requires
+    (λ c. search laws)  -- overflow_add-i
+    (λ c. search laws)  -- loop-i-smaller
+    (λ c. search laws)  -- loop-i-preserved
+    (λ c. search laws))  -- returns

@@ -20,7 +20,7 @@ pub commented_spec : {M : Type 1} → statement M
 commented_spec =
     tie.close
     (tie.spec
-    (λ c κs. search laws)  -- line-end-requires
+    (λ c κs. search laws)  -- line_end-requires
     (λ c κs. search laws)  -- hash-requires
-    (λ c. search laws)  -- returns
-    (λ c. search laws))  -- returns_2
+    (λ c. search laws)  -- returns-then-comment
+    (λ c. search laws))  -- returns-else-comment

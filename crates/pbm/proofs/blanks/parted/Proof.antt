@@ -24,8 +24,8 @@ pub parted_spec : {M : Type 1} → statement M
 parted_spec =
     tie.close
     (tie.spec
-    (λ c. search laws)  -- returns
-    (λ c. search laws)  -- shared-slice-read-b
+    (λ c. search laws)  -- returns-then-file-at
+    (λ c. search laws)  -- bounds-file-at
     (λ c κs. search laws)  -- white-requires
     (λ c κs. search laws)  -- hash-requires
-    (λ c. search laws))  -- returns_2
+    (λ c. search laws))  -- returns

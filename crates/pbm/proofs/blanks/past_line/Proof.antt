@@ -13,11 +13,11 @@ use Rattle.pbm.specs.Header.{line_end, past_line}
 use Rattle.pbm.proofs.blanks.past_line.Statement.{statement}
 use Rattle.pbm.proofs.blanks.past_line.Tie as tie
 
-abbrev invariant-loop : tie.invariant-loop
-invariant-loop file from i₀ i = (i ≤ length file) × (past_line (drop from file) ≡ past_line (drop i file))
+abbrev invariant-loop-i : tie.invariant-loop-i
+invariant-loop-i file from i₀ i = (i ≤ length file) × (past_line (drop from file) ≡ past_line (drop i file))
 
-abbrev decreases-loop : tie.decreases-loop
-decreases-loop file from i₀ i = length file - i
+abbrev decreases-loop-i : tie.decreases-loop-i
+decreases-loop-i file from i₀ i = length file - i
 
 module _ (file : List ℕ) (from i : ℕ) (inv : past_line (drop from file) ≡ past_line (drop i file)) where
   module _ (h : i < length file) (r : Bool) (says : r ≡ line_end (get_or file i 0)) where
@@ -39,13 +39,13 @@ pub past_line_spec : {M : Type 1} → statement M
 past_line_spec =
     tie.close
     (tie.spec
-    invariant-loop
-    decreases-loop
-    (λ c. search laws)  -- loop-holds
-    (λ c. search laws)  -- shared-slice-read-b
-    (λ c. search laws)  -- add-i
-    (λ c κs. search laws)  -- line-end-requires
-    (λ c. search laws)  -- returns
-    (λ c. search laws)  -- loop-less
-    (λ c. search laws)  -- loop-again
-    (λ c. search laws))  -- returns_2
+    invariant-loop-i
+    decreases-loop-i
+    (λ c. search laws)  -- loop-i-init
+    (λ c. search laws)  -- bounds-file-i
+    (λ c. search laws)  -- overflow_add-i
+    (λ c κs. search laws)  -- line_end-requires
+    (λ c. search laws)  -- returns-then-line_end
+    (λ c. search laws)  -- loop-i-smaller
+    (λ c. search laws)  -- loop-i-preserved
+    (λ c. search laws))  -- returns

@@ -23,7 +23,7 @@ pub digit_at_spec : {M : Type 1} → statement M
 digit_at_spec =
     tie.close
     (tie.spec
-    (λ c. search laws)  -- returns
-    (λ c. search laws)  -- shared-slice-read-digit
+    (λ c. search laws)  -- returns-then-file-at
+    (λ c. search laws)  -- bounds-file-at
     (λ c κs. search laws)  -- digit-requires
-    (λ c. search laws))  -- returns_2
+    (λ c. search laws))  -- returns

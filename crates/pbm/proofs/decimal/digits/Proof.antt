@@ -17,12 +17,12 @@ use Rattle.pbm.specs.declared.decimal.Size.TheVariants.{Is}
 use Rattle.pbm.proofs.decimal.digits.Statement.{statement}
 use Rattle.pbm.proofs.decimal.digits.Tie as tie
 
-abbrev invariant-loop : tie.invariant-loop
-invariant-loop file from value₀ i₀ value i =
+abbrev invariant-loop-i : tie.invariant-loop-i
+invariant-loop-i file from value₀ i₀ value i =
     (i ≤ length file) × (value ≤ 513) × (size_of file (some (digits_from 0 (drop from file))) ≡ size_of file (some (digits_from value (drop i file))))
 
-abbrev decreases-loop : tie.decreases-loop
-decreases-loop file from value₀ i₀ value i = length file - i
+abbrev decreases-loop-i : tie.decreases-loop-i
+decreases-loop-i file from value₀ i₀ value i = length file - i
 
 -- a size past 512 may stand for another: with more digits both stay there
 module _ (file : List ℕ) where
@@ -79,14 +79,14 @@ pub digits_spec : {M : Type 1} → statement M
 digits_spec =
     tie.close
     (tie.spec
-    invariant-loop
-    decreases-loop
-    (λ c. search laws)  -- loop-holds
-    (λ c. search laws)  -- shared-slice-read-b
+    invariant-loop-i
+    decreases-loop-i
+    (λ c. search laws)  -- loop-i-init
+    (λ c. search laws)  -- bounds-file-i
     (λ c κs. search laws)  -- digit-requires
-    (λ c. search laws)  -- returns
-    (λ c κs. search laws)  -- longer-requires
-    (λ c. search laws)  -- add-i
-    (λ c. search laws)  -- loop-less
-    (λ c. search laws)  -- loop-again
-    (λ c. search laws))  -- returns_2
+    (λ c. search laws)  -- returns-then-not-digit
+    (λ c κs. search laws)  -- longer-value-requires
+    (λ c. search laws)  -- overflow_add-i
+    (λ c. search laws)  -- loop-i-smaller
+    (λ c. search laws)  -- loop-i-preserved
+    (λ c. search laws))  -- returns

@@ -20,9 +20,9 @@ pub longer_spec : {M : Type 1} → statement M
 longer_spec =
     tie.close
     (tie.spec
-    (λ c. search laws)  -- mul-more
-    (λ c. search laws)  -- sub-more
-    (λ c. search laws)  -- cast-more
-    (λ c. search laws)  -- add-more
-    (λ c. search laws)  -- returns
-    (λ c. search laws))  -- returns_2
+    (λ c. search laws)  -- overflow_mul-more
+    (λ c. search laws)  -- overflow_sub-more
+    (λ c. search laws)  -- overflow_cast-more
+    (λ c. search laws)  -- overflow_add-more
+    (λ c. search laws)  -- returns-then-more-gt-OVER
+    (λ c. search laws))  -- returns-else-more-gt-OVER

@@ -58,9 +58,9 @@ read_size_spec =
     tie.close
     (tie.spec
     (λ c κs. search laws)  -- parted-requires
-    (λ c. search laws)  -- returns
-    (λ c κs. search laws)  -- behind-requires
-    (λ c κs. search laws)  -- digit-at-requires
-    (λ c. search laws)  -- returns_2
+    (λ c. search laws)  -- returns-then-not-parted
+    (λ c κs. search laws)  -- behind-at-requires
+    (λ c κs. search laws)  -- digit_at-requires
+    (λ c. search laws)  -- returns-then-not-digit_at
     (λ c κs. search laws)  -- digits-requires
-    (λ c. search laws))  -- returns_3
+    (λ c. search laws))  -- returns

@@ -41,13 +41,13 @@ pub raster_spec : {M : Type 1} → statement M
 raster_spec =
     tie.close
     (tie.spec
-    (λ c. search laws)  -- returns
-    (λ c. search laws)  -- shared-slice-read-b
+    (λ c. search laws)  -- returns-then-file-from
+    (λ c. search laws)  -- bounds-file-from
     (λ c κs. search laws)  -- white-requires
-    (λ c. search laws)  -- add-t9
-    (λ c. search laws)  -- returns_2
+    (λ c. search laws)  -- overflow_add-result
+    (λ c. search laws)  -- returns-then-white
     (λ c κs. search laws)  -- hash-requires
-    (λ c. search laws)  -- add-past-line
-    (λ c κs. search laws)  -- past-line-requires
-    (λ c. search laws)  -- returns_3
-    (λ c. search laws))  -- returns-4
+    (λ c. search laws)  -- overflow_add-from
+    (λ c κs. search laws)  -- past_line-requires
+    (λ c. search laws)  -- returns-then-hash
+    (λ c. search laws))  -- returns

@@ -52,13 +52,13 @@ pub read_header_spec : {M : Type 1} → statement M
 read_header_spec =
     tie.close
     (tie.spec
-    (λ c. search laws)  -- returns
-    (λ c. search laws)  -- shared-slice-read-if2
-    (λ c. search laws)  -- returns_2
-    (λ c. search laws)  -- shared-slice-read-if3
+    (λ c. search laws)  -- returns-then-file-lt2
+    (λ c. search laws)  -- bounds-file-0
+    (λ c. search laws)  -- returns-then-file-ne80
+    (λ c. search laws)  -- bounds-file-1
     (λ c κs. search laws)  -- sizes-requires
-    (λ c. search laws)  -- returns_3
-    (λ c. search laws)  -- shared-slice-read-if4
-    (λ c κs. search laws)  -- sizes-requires-2
-    (λ c. search laws)  -- returns-4
-    (λ c. search laws))  -- returns_5
+    (λ c. search laws)  -- returns-then-file-eq49
+    (λ c. search laws)  -- bounds-file-1-2
+    (λ c κs. search laws)  -- sizes-requires-then-file-eq52
+    (λ c. search laws)  -- returns-then-file-eq52
+    (λ c. search laws))  -- returns

@@ -75,12 +75,12 @@ pub sizes_spec : {M : Type 1} → statement M
 sizes_spec =
     tie.close
     (tie.spec
-    (λ c κs. search laws)  -- read-size-requires
-    (λ c. search laws)  -- enum-known-width
-    (λ c. search laws)  -- enum-told
-    (λ c. search laws)  -- returns
-    (λ c κs. search laws)  -- read-size-requires-2
-    (λ c. search laws)  -- enum-known-height
-    (λ c. search laws)  -- enum-told-2
-    (λ c. search laws)  -- returns_2
-    (λ c. search laws))  -- returns_3
+    (λ c κs. search laws)  -- read_size-requires
+    (λ c. search laws)  -- enum_known-width
+    (λ c. search laws)  -- enum_told-1
+    (λ c. search laws)  -- returns-in_default
+    (λ c κs. search laws)  -- read_size-requires-2
+    (λ c. search laws)  -- enum_known-height
+    (λ c. search laws)  -- enum_told-in_default-read_size
+    (λ c. search laws)  -- returns-in_default-read_size
+    (λ c. search laws))  -- returns

@@ -17,11 +17,11 @@ use Rattle.pbm.proofs.Digits.{white_blank, zero_or_one, neither, none_left, blan
 use Rattle.pbm.proofs.plain.digits_end.Statement.{statement}
 use Rattle.pbm.proofs.plain.digits_end.Tie as tie
 
-abbrev invariant-loop : tie.invariant-loop
-invariant-loop file from n left₀ i₀ left i = (i ≤ length file) × (behind_digits (digits_in left (drop i file)) ≡ behind_digits (digits_in n (drop from file)))
+abbrev invariant-loop-left : tie.invariant-loop-left
+invariant-loop-left file from n left₀ i₀ left i = (i ≤ length file) × (behind_digits (digits_in left (drop i file)) ≡ behind_digits (digits_in n (drop from file)))
 
-abbrev decreases-loop : tie.decreases-loop
-decreases-loop file from n left₀ i₀ left i = length file - i
+abbrev decreases-loop-left : tie.decreases-loop-left
+decreases-loop-left file from n left₀ i₀ left i = length file - i
 
 module _ (file : List ℕ) (i left : ℕ) (end : Option (List ℕ)) (inv : behind_digits (digits_in left (drop i file)) ≡ end) where
   module _ (more : 0 < left) where
@@ -53,28 +53,28 @@ module _ (file : List ℕ) (i left : ℕ) (end : Option (List ℕ)) (inv : behin
 
 ruleset laws = (file_ends, one_digit, other, rules)
 
-returns_3 : tie.Need-returns-3 invariant-loop decreases-loop
+returns_3 : tie.Need-returns invariant-loop-left decreases-loop-left
 returns_3 c = search all_there
 
-loop_again_2 : tie.Need-loop-preserved-2 invariant-loop decreases-loop
+loop_again_2 : tie.Need-loop-left-preserved invariant-loop-left decreases-loop-left
 loop_again_2 c = (search rules, search one_blank)
 
 pub digits_end_spec : {M : Type 1} → statement M
 digits_end_spec =
     tie.close
     (tie.spec
-    invariant-loop
-    decreases-loop
-    (λ c. search rules)  -- loop-holds
-    (λ c. search laws)  -- returns
-    (λ c. search rules)  -- shared-slice-read-b
-    (λ c. search rules)  -- add-i
-    (λ c κs. tt)  -- is-pixel-requires
-    (λ c. search rules)  -- sub-left
-    (λ c. search rules)  -- loop-less
-    (λ c. search laws)  -- loop-again
+    invariant-loop-left
+    decreases-loop-left
+    (λ c. search rules)  -- loop-left-init
+    (λ c. search laws)  -- returns-then-file-i
+    (λ c. search rules)  -- bounds-file-i
+    (λ c. search rules)  -- overflow_add-i
+    (λ c κs. tt)  -- is_pixel-requires
+    (λ c. search rules)  -- overflow_sub-left
+    (λ c. search rules)  -- loop-left-smaller-then-is_pixel
+    (λ c. search laws)  -- loop-left-preserved-then-is_pixel
     (λ c κs. tt)  -- white-requires
-    (λ c. search laws)  -- returns_2
-    (λ c. search rules)  -- loop-less-2
+    (λ c. search laws)  -- returns-then-not-white
+    (λ c. search rules)  -- loop-left-smaller
     loop_again_2
     returns_3)

@@ -27,14 +27,14 @@ use Rattle.pbm.proofs.plain.gather.Tie as tie
 abbrev bit : Option Digits → ℕ → Bool
 bit d = λ j. get_or (bits_of d) j false
 
-abbrev invariant-loop : tie.invariant-loop
-invariant-loop file from n byte₀ wanted₀ i₀ byte wanted i =
+abbrev invariant-loop-wanted : tie.invariant-loop-wanted
+invariant-loop-wanted file from n byte₀ wanted₀ i₀ byte wanted i =
     (wanted ≤ n)
     × (byte ≡ packed (n - wanted) (bit (digits_in n (drop from file))))
     × (digits_in wanted (drop i file) ≡ skip (n - wanted) (digits_in n (drop from file)))
 
-abbrev decreases-loop : tie.decreases-loop
-decreases-loop file from n byte₀ wanted₀ i₀ byte wanted i = length file - i
+abbrev decreases-loop-wanted : tie.decreases-loop-wanted
+decreases-loop-wanted file from n byte₀ wanted₀ i₀ byte wanted i = length file - i
 
 module _ (file : List ℕ) (i wanted n : ℕ) (d : Option Digits) (there : whole d ≡ true) (most : n ≤ 8) (within : wanted ≤ n)
     (inv : digits_in wanted (drop i file) ≡ skip (n - wanted) d) where
@@ -113,26 +113,26 @@ starts_empty n p = let z : n - n ≡ 0 = omega arith in rw z
 
 ruleset laws = (in_file, next_fits, shorter, fewer_wanted, double_fits, sum_fits, more_held, one_blank, rules)
 
-returns : tie.Need-returns invariant-loop decreases-loop
+returns : tie.Need-returns invariant-loop-wanted decreases-loop-wanted
 returns c = (search moved_up, search ends)
 
 pub gather_spec : {M : Type 1} → statement M
 gather_spec =
     tie.close
     (tie.spec
-    invariant-loop
-    decreases-loop
-    (λ c. search (starts, starts_empty, rules))  -- loop-holds
-    (λ c. search laws)  -- shared-slice-read-b
-    (λ c. search laws)  -- add-i
-    (λ c. search laws)  -- mul-byte
-    (λ c. search laws)  -- add-byte
-    (λ c. search rules)  -- sub-wanted
-    (λ c. search laws)  -- loop-less
-    (λ c. search laws)  -- loop-again
-    (λ c. search laws)  -- loop-less-2
-    (λ c. search laws)  -- loop_again_2
-    (λ c. search rules)  -- sub-t13
-    (λ c. search rules)  -- cast-t14
-    (λ c. search rules)  -- shl-t15
+    invariant-loop-wanted
+    decreases-loop-wanted
+    (λ c. search (starts, starts_empty, rules))  -- loop-wanted-init
+    (λ c. search laws)  -- bounds-file-i
+    (λ c. search laws)  -- overflow_add-i
+    (λ c. search laws)  -- overflow_mul-byte
+    (λ c. search laws)  -- overflow_add-byte
+    (λ c. search rules)  -- overflow_sub-wanted
+    (λ c. search laws)  -- loop-wanted-smaller-then-b-ge48
+    (λ c. search laws)  -- loop-wanted-preserved-then-b-ge48
+    (λ c. search laws)  -- loop-wanted-smaller
+    (λ c. search laws)  -- loop-wanted-preserved
+    (λ c. search rules)  -- overflow_sub-result
+    (λ c. search rules)  -- overflow_cast-result
+    (λ c. search rules)  -- overflow_shl-result
     returns)

@@ -44,11 +44,11 @@ record Packing (c : Chart) (file : List ℕ) (from : ℕ) (old : List ℕ) (byte
   left : digits_in (c.width * c.height - before c.width i) (drop at file) ≡ skip (before c.width i) (digits_of c file from)
   so_far : pixels ≡ over (listed i (byte_at c (pixels_of c (digits_of c file from)))) old
 
-abbrev invariant-loop : tie.invariant-loop
-invariant-loop file from chart pixels₀ bytes at₀ x₀ i₀ pixels at x i = Packing chart file from pixels₀ bytes pixels at x i
+abbrev invariant-loop-i : tie.invariant-loop-i
+invariant-loop-i file from chart pixels₀ bytes at₀ x₀ i₀ pixels at x i = Packing chart file from pixels₀ bytes pixels at x i
 
-abbrev decreases-loop : tie.decreases-loop
-decreases-loop file from chart pixels₀ bytes at₀ x₀ i₀ pixels at x i = bytes - i
+abbrev decreases-loop-i : tie.decreases-loop-i
+decreases-loop-i file from chart pixels₀ bytes at₀ x₀ i₀ pixels at x i = bytes - i
 
 begun : (c : Chart) (file : List ℕ) (from : ℕ) (old : List ℕ) (n : ℕ) → n ≡ all_bytes c → Packing c file from old n old from 0 0
 unfolding listed
@@ -152,19 +152,19 @@ pub pack_rows_spec : {M : Type 1} → statement M
 pack_rows_spec =
     tie.close
     (tie.spec
-    invariant-loop
-    decreases-loop
-    (λ c κs. search rules)  -- all-bytes-requires
-    (λ c. search (begun, rules))  -- loop-holds
-    (λ c. search not_past)  -- sub-in-byte
-    (λ c κs. tt)  -- in-byte-requires
-    (λ c κs. (search some_pixels, search rules, search those_there))  -- gather-requires
-    (λ c. search rules)  -- slice-write-pixels
-    (λ c. search rules)  -- add-i
-    (λ c. search at_column)  -- add-x
-    (λ c. search rules)  -- loop-less
-    (λ c. search row_ends)  -- loop-again
-    (λ c. search rules)  -- loop-less-2
-    (λ c. search row_goes_on)  -- loop_again_2
-    (λ c. search rules)  -- same-length
+    invariant-loop-i
+    decreases-loop-i
+    (λ c κs. search rules)  -- all_bytes-bytes-requires
+    (λ c. search (begun, rules))  -- loop-i-init
+    (λ c. search not_past)  -- overflow_sub-width
+    (λ c κs. tt)  -- in_byte-requires
+    (λ c κs. (search some_pixels, search rules, search those_there))  -- gather-gathered-requires
+    (λ c. search rules)  -- bounds-pixels-i
+    (λ c. search rules)  -- overflow_add-i
+    (λ c. search at_column)  -- overflow_add-x
+    (λ c. search rules)  -- loop-i-smaller-then-width-x
+    (λ c. search row_ends)  -- loop-i-preserved-then-width-x
+    (λ c. search rules)  -- loop-i-smaller
+    (λ c. search row_goes_on)  -- loop-i-preserved
+    (λ c. search rules)  -- shape_of-pixels
     (λ c. search all))  -- returns

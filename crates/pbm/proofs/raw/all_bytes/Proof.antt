@@ -18,5 +18,5 @@ pub all_bytes_spec : {M : Type 1} → statement M
 all_bytes_spec =
     tie.close
     (tie.spec
-    (λ c κs. search laws)  -- all-bytes-requires
+    (λ c κs. search laws)  -- all_bytes-requires
     (λ c. search laws))  -- returns

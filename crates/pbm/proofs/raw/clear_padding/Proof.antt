@@ -34,11 +34,11 @@ record Clearing (c : Chart) (old : List ℕ) (at row padding : ℕ) (out : List 
   same : length out ≡ length old
   so_far : out ≡ paste old at (rows c old at) (row * y)
 
-abbrev invariant-loop : tie.invariant-loop
-invariant-loop chart out₀ at row padding end₀ y₀ out end y = Clearing chart out₀ at row padding out end y
+abbrev invariant-loop-y : tie.invariant-loop-y
+invariant-loop-y chart out₀ at row padding end₀ y₀ out end y = Clearing chart out₀ at row padding out end y
 
-abbrev decreases-loop : tie.decreases-loop
-decreases-loop chart out₀ at row padding end₀ y₀ out end y = chart.height - y
+abbrev decreases-loop-y : tie.decreases-loop-y
+decreases-loop-y chart out₀ at row padding end₀ y₀ out end y = chart.height - y
 
 module _ (c : Chart) (old : List ℕ) (at : ℕ) where
   begun : (row : ℕ) → row ≡ row_bytes c.width → Clearing c old at row (row * 8 - c.width) old at 0
@@ -145,20 +145,20 @@ pub clear_padding_spec : {M : Type 1} → statement M
 clear_padding_spec =
     tie.close
     (tie.spec
-    invariant-loop
-    decreases-loop
-    (λ c κs. search laws)  -- row-bytes-requires
-    (λ c. search laws)  -- mul-padding
-    (λ c. search laws)  -- sub-padding
-    (λ c. search laws)  -- loop-holds
-    (λ c. search laws)  -- add-end
-    (λ c. search laws)  -- sub-cleared
-    (λ c. search laws)  -- slice-read-cleared
+    invariant-loop-y
+    decreases-loop-y
+    (λ c κs. search laws)  -- row_bytes-row-requires
+    (λ c. search laws)  -- overflow_mul-padding
+    (λ c. search laws)  -- overflow_sub-padding
+    (λ c. search laws)  -- loop-y-init
+    (λ c. search laws)  -- overflow_add-end
+    (λ c. search laws)  -- overflow_sub-end
+    (λ c. search laws)  -- bounds-out-end
     (λ c κs. search laws)  -- cleared-requires
-    (λ c. search laws)  -- sub-out
-    (λ c. search laws)  -- slice-write-out
-    (λ c. search laws)  -- add-y
-    (λ c. search laws)  -- loop-less
-    (λ c. search laws)  -- loop-again
-    (λ c. search laws)  -- same-length
+    (λ c. search laws)  -- overflow_sub-out
+    (λ c. search laws)  -- bounds-out-end-in-loop-y
+    (λ c. search laws)  -- overflow_add-y
+    (λ c. search laws)  -- loop-y-smaller
+    (λ c. search laws)  -- loop-y-preserved
+    (λ c. search laws)  -- shape_of-out
     (λ c. search laws))  -- returns

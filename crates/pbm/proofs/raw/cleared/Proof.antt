@@ -22,6 +22,6 @@ pub cleared_spec : {M : Type 1} → statement M
 cleared_spec =
     tie.close
     (tie.spec
-    (λ c. search rules)  -- cast-result
-    (λ c. search rules)  -- shl-result
+    (λ c. search rules)  -- overflow_cast-result
+    (λ c. search rules)  -- overflow_shl-result
     (λ c. search laws))  -- returns

@@ -65,11 +65,11 @@ pub copy_rows_spec : {M : Type 1} → statement M
 copy_rows_spec =
     tie.close
     (tie.spec
-    (λ c κs. search rules)  -- all-bytes-requires
-    (λ c. search rules)  -- sub-put-bytes
-    (λ c. search rules)  -- part-put-bytes-start
-    (λ c. search rules)  -- part-put-bytes-end
-    (λ c κs. search rules)  -- put-bytes-requires
-    (λ c κs. search rules)  -- clear-padding-requires
-    (λ c. search rules)  -- same-length
+    (λ c κs. search rules)  -- all_bytes-bytes-requires
+    (λ c. search rules)  -- slice_bounds-put_bytes-count
+    (λ c. search rules)  -- slice_bounds-put_bytes-start
+    (λ c. search rules)  -- slice_bounds-put_bytes-end
+    (λ c κs. search rules)  -- put_bytes-requires
+    (λ c κs. search rules)  -- clear_padding-requires
+    (λ c. search rules)  -- shape_of-out
     (λ c. search laws))  -- returns

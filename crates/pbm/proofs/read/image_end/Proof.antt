@@ -40,11 +40,11 @@ pub image_end_spec : {M : Type 1} → statement M
 image_end_spec =
     tie.close
     (tie.spec
-    (λ c. search laws)  -- mul-digits-end
-    (λ c κs. search laws)  -- digits-end-requires
-    (λ c. search laws)  -- returns
-    (λ c κs. search laws)  -- all-bytes-requires
-    (λ c. search laws)  -- sub-if2
-    (λ c. search laws)  -- returns_2
-    (λ c. search laws)  -- add-t8
-    (λ c. search laws))  -- returns_3
+    (λ c. search laws)  -- overflow_mul-chart
+    (λ c κs. search laws)  -- digits_end-requires
+    (λ c. search laws)  -- returns-then-plain
+    (λ c κs. search laws)  -- all_bytes-bytes-requires
+    (λ c. search laws)  -- overflow_sub-file
+    (λ c. search laws)  -- returns-then-file-from
+    (λ c. search laws)  -- overflow_add-result
+    (λ c. search laws))  -- returns

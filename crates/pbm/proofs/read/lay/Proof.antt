@@ -53,12 +53,12 @@ pub lay_spec : {M : Type 1} → statement M
 lay_spec =
     tie.close
     (tie.spec
-    (λ c κs. search laws)  -- pack-rows-requires
-    (λ c. search laws)  -- same-length
-    (λ c. search laws)  -- returns
-    (λ c. search laws)  -- sub-copy-rows
-    (λ c. search laws)  -- part-copy-rows-start
-    (λ c. search laws)  -- part-copy-rows-end
-    (λ c κs. search laws)  -- copy-rows-requires
-    (λ c. search laws)  -- same-length-2
-    (λ c. search laws))  -- returns_2
+    (λ c κs. search laws)  -- pack_rows-requires
+    (λ c. search laws)  -- shape_of-pixels-then-plain
+    (λ c. search laws)  -- returns-then-plain
+    (λ c. search laws)  -- slice_bounds-copy_rows-count
+    (λ c. search laws)  -- slice_bounds-copy_rows-start
+    (λ c. search laws)  -- slice_bounds-copy_rows-end
+    (λ c κs. search laws)  -- copy_rows-requires
+    (λ c. search laws)  -- shape_of-pixels
+    (λ c. search laws))  -- returns

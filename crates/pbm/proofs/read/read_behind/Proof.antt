@@ -100,31 +100,31 @@ enough m n k e h = omega arith
 ruleset laws = (in_range_lem, inside, has, bad, nothing, broken, full, done, rules)
 
 -- apart, so that an edit which judges in another order is refused here
-returns : tie.Need-returns
+returns : tie.Need-returns-then-bad_sides
 returns c = search laws
 
-returns_3 : tie.Need-returns-3
+returns_3 : tie.Need-returns-in_default-image_end
 returns_3 c = search laws
 
-returns_5 : tie.Need-returns-5
+returns_5 : tie.Need-returns
 returns_5 c = search laws
 
 pub read_behind_spec : {M : Type 1} → statement M
 read_behind_spec =
     tie.close
     (tie.spec
-    (λ c κs. search laws)  -- bad-sides-requires
+    (λ c κs. search laws)  -- bad_sides-requires
     returns
     (λ c κs. search laws)  -- raster-requires
-    (λ c. search laws)  -- enum-known-from
-    (λ c. search laws)  -- enum-told
-    (λ c. search laws)  -- returns_2
-    (λ c κs. search laws)  -- image-end-requires
-    (λ c. search laws)  -- enum-known-end
-    (λ c. search laws)  -- enum-told-2
+    (λ c. search laws)  -- enum_known-from
+    (λ c. search laws)  -- enum_told-1
+    (λ c. search laws)  -- returns-in_default
+    (λ c κs. search laws)  -- image_end-requires
+    (λ c. search laws)  -- enum_known-end
+    (λ c. search laws)  -- enum_told-in_default-image_end
     returns_3
-    (λ c κs. search laws)  -- all-bytes-requires
-    (λ c. search laws)  -- returns-4
+    (λ c κs. search laws)  -- all_bytes-requires
+    (λ c. search laws)  -- returns-then-pixels-all_bytes
     (λ c κs. (search in_range_lem, search enough, search inside, search has))  -- lay-requires
-    (λ c. search laws)  -- same-length
+    (λ c. search laws)  -- shape_of-pixels
     returns_5)

@@ -53,10 +53,10 @@ pub read_pbm_spec : {M : Type 1} → statement M
 read_pbm_spec =
     tie.close
     (tie.spec
-    (λ c κs. search laws)  -- read-header-requires
-    (λ c. search laws)  -- enum-known-head
-    (λ c. search laws)  -- enum-told
-    (λ c. search laws)  -- returns
-    (λ c κs. search laws)  -- read-behind-requires
-    (λ c. search laws)  -- same-length
-    (λ c. search laws))  -- returns_2
+    (λ c κs. search laws)  -- read_header-requires
+    (λ c. search laws)  -- enum_known-head
+    (λ c. search laws)  -- enum_told-1
+    (λ c. search laws)  -- returns-in_default
+    (λ c κs. search laws)  -- read_behind-requires
+    (λ c. search laws)  -- shape_of-pixels
+    (λ c. search laws))  -- returns

@@ -36,8 +36,8 @@ pub file_bytes_spec : {M : Type 1} → statement M
 file_bytes_spec =
     tie.close
     (tie.spec
-    (λ c. search rules)  -- slice-aggregate-put-head
-    (λ c κs. search laws)  -- put-head-requires
-    (λ c κs. search rules)  -- all-bytes-requires
-    (λ c. search laws)  -- add-result
+    (λ c. search rules)  -- slice_bounds-put_head-end
+    (λ c κs. search laws)  -- put_head-requires
+    (λ c κs. search rules)  -- all_bytes-requires
+    (λ c. search laws)  -- overflow_add-result
     returns)

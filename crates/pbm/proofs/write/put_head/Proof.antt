@@ -15,10 +15,10 @@ pub put_head_spec : {M : Type 1} → statement M
 put_head_spec =
     tie.close
     (tie.spec
-    (λ c. search rules)  -- slice-write-out
-    (λ c. simp length-set (omega arith))  -- slice-write-out-2
-    (λ c. simp length-set (omega arith))  -- slice-write-out-3
-    (λ c κs. search laws)  -- put-size-requires
-    (λ c κs. search laws)  -- put-size-requires-2
-    (λ c. search head_kept)  -- same-length
+    (λ c. search rules)  -- bounds-out-0
+    (λ c. simp length-set (omega arith))  -- bounds-out-1
+    (λ c. simp length-set (omega arith))  -- bounds-out-2
+    (λ c κs. search laws)  -- put_size-end-requires
+    (λ c κs. search laws)  -- put_size-requires
+    (λ c. search head_kept)  -- shape_of-out
     returns)

@@ -10,7 +10,7 @@ pub put_size_spec : {M : Type 1} → statement M
 put_size_spec =
     tie.close
     (tie.spec
-    (λ c κs. search rules)  -- put-natural-requires
-    (λ c κs. search rules)  -- put-byte-requires
-    (λ c. search rules)  -- same-length
+    (λ c κs. search rules)  -- put_natural-end-requires
+    (λ c κs. search rules)  -- put_byte-requires
+    (λ c. search rules)  -- shape_of-out
     (λ c. search laws))  -- returns

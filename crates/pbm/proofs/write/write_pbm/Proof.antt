@@ -78,21 +78,21 @@ module _ (c : Chart) (pixels out : List ℕ) where
 
 ruleset laws = (bad, in_range_lem, enough, no_room, rows_room, done, rules)
 
-returns_2 : tie.Need-returns-2
+returns_2 : tie.Need-returns-then-out-bytes
 returns_2 c = search laws
 
-returns_3 : tie.Need-returns-3
+returns_3 : tie.Need-returns
 returns_3 c = search laws
 
 pub write_pbm_spec : {M : Type 1} → statement M
 write_pbm_spec =
     tie.close
     (tie.spec
-    (λ c κs. search rules)  -- bad-chart-requires
-    (λ c. search laws)  -- returns
-    (λ c κs. search laws)  -- file-bytes-requires
+    (λ c κs. search rules)  -- bad_chart-requires
+    (λ c. search laws)  -- returns-then-bad_chart
+    (λ c κs. search laws)  -- file_bytes-bytes-requires
     returns_2
-    (λ c κs. search laws)  -- put-head-requires
-    (λ c κs. search laws)  -- copy-rows-requires
-    (λ c. search rules)  -- same-length
+    (λ c κs. search laws)  -- put_head-end-requires
+    (λ c κs. search laws)  -- copy_rows-requires
+    (λ c. search rules)  -- shape_of-out
     returns_3)

@@ -54,7 +54,7 @@ pub corner_spec : {M : Type 1} → statement M
 corner_spec =
     tie.close
     (tie.spec
-    (λ c κs. search rules)  -- going-x-requires
-    (λ c κs. search rules)  -- going-y-requires
+    (λ c κs. search rules)  -- going_x-requires
+    (λ c κs. search rules)  -- going_y-requires
     (λ c κs. search rules)  -- longer-requires
     (λ c. search laws))  -- returns

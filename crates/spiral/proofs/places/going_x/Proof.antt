@@ -10,6 +10,6 @@ pub going_x_spec : {M : Type 1} → statement M
 going_x_spec =
     tie.close
     (tie.spec
-    (λ c. search laws)  -- returns
-    (λ c. search laws)  -- returns_2
-    (λ c. search laws))  -- returns_3
+    (λ c. search laws)  -- returns-then-dir-eq0
+    (λ c. search laws)  -- returns-then-dir-eq2
+    (λ c. search laws))  -- returns-else-dir-eq2

@@ -10,6 +10,6 @@ pub going_y_spec : {M : Type 1} → statement M
 going_y_spec =
     tie.close
     (tie.spec
-    (λ c. search laws)  -- returns
-    (λ c. search laws)  -- returns_2
-    (λ c. search laws))  -- returns_3
+    (λ c. search laws)  -- returns-then-dir-eq1
+    (λ c. search laws)  -- returns-then-dir-eq3
+    (λ c. search laws))  -- returns-else-dir-eq3

@@ -42,7 +42,7 @@ pub longer_spec : {M : Type 1} → statement M
 longer_spec =
     tie.close
     (tie.spec
-    (λ c. search laws)  -- rem-if1
-    (λ c. search laws)  -- add-result
-    (λ c. search laws)  -- returns
-    (λ c. search laws))  -- returns_2
+    (λ c. search laws)  -- nonzero_rem-dir
+    (λ c. search laws)  -- overflow_add-result
+    (λ c. search laws)  -- returns-then-dir-eq0
+    (λ c. search laws))  -- returns-else-dir-eq0

@@ -40,8 +40,8 @@ pub onward_spec : {M : Type 1} → statement M
 onward_spec =
     tie.close
     (tie.spec
-    (λ c κs. search laws)  -- ahead-requires
-    (λ c. search laws)  -- returns
+    (λ c κs. search laws)  -- ahead-next-requires
+    (λ c. search laws)  -- returns-then-next
     (λ c κs. search laws)  -- turned-requires
     (λ c κs. search laws)  -- corner-requires
-    (λ c. search laws))  -- returns_2
+    (λ c. search laws))  -- returns

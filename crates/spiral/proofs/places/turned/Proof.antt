@@ -28,7 +28,7 @@ pub turned_spec : {M : Type 1} → statement M
 turned_spec =
     tie.close
     (tie.spec
-    (λ c. search laws)  -- add-if1
-    (λ c. search laws)  -- add-result
-    (λ c. search laws)  -- returns
-    (λ c. search laws))  -- returns_2
+    (λ c. search laws)  -- overflow_add-dir
+    (λ c. search laws)  -- overflow_add-result
+    (λ c. search laws)  -- returns-then-dir-ge4
+    (λ c. search laws))  -- returns-else-dir-ge4

@@ -27,10 +27,10 @@ pub advance_spec : {M : Type 1} → statement M
 advance_spec =
     tie.close
     (tie.spec
-    (λ c κs. search rules)  -- spiral-step-requires
-    (λ c. search rules)  -- enum-known-point
-    (λ c. search rules)  -- enum-told
-    (λ c. search rules)  -- enum-known-refusal
-    (λ c. search laws)  -- returns
-    (λ c. search laws)  -- returns_2
-    (λ c. search laws))  -- returns_3
+    (λ c κs. search rules)  -- spiral_step-requires
+    (λ c. search rules)  -- enum_known-point
+    (λ c. search rules)  -- enum_told-1
+    (λ c. search rules)  -- enum_known-refusal
+    (λ c. search laws)  -- returns-in-At
+    (λ c. search laws)  -- returns-in-End
+    (λ c. search laws))  -- returns-in-Refused

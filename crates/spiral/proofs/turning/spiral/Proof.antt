@@ -50,8 +50,8 @@ pub spiral_spec : {M : Type 1} → statement M
 spiral_spec =
     tie.close
     (tie.spec
-    (λ c. search laws)  -- returns
-    (λ c. search laws)  -- cast-middle
-    (λ c. search laws)  -- sub-middle
-    (λ c. search laws)  -- mul-t5
-    (λ c. search laws))  -- returns_2
+    (λ c. search laws)  -- returns-then-size-gt512
+    (λ c. search laws)  -- overflow_cast-middle
+    (λ c. search laws)  -- overflow_sub-middle
+    (λ c. search laws)  -- overflow_mul-result
+    (λ c. search laws))  -- returns

@@ -44,9 +44,9 @@ spiral_step_spec =
     tie.close
     (tie.spec
     (λ c κs. search laws)  -- sound-requires
-    (λ c. search laws)  -- returns
-    (λ c. search laws)  -- returns_2
-    (λ c. search laws)  -- add-next
-    (λ c. search laws)  -- returns_3
+    (λ c. search laws)  -- returns-then-not-sound
+    (λ c. search laws)  -- returns-then-s
+    (λ c. search laws)  -- overflow_add-next
+    (λ c. search laws)  -- returns-then-s-eq1
     (λ c κs. search laws)  -- onward-requires
-    (λ c. search laws))  -- returns-4
+    (λ c. search laws))  -- returns

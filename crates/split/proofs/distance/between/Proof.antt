@@ -28,6 +28,6 @@ pub between_spec : {M : Type 1} → statement M
 between_spec =
     tie.close
     (tie.spec
-    (λ c κs. search laws)  -- place-requires
-    (λ c κs. search laws)  -- place-requires-2
+    (λ c κs. search laws)  -- place-a-requires
+    (λ c κs. search laws)  -- place-b-requires
     (λ c. search laws))  -- returns

@@ -23,7 +23,7 @@ pub foot_spec : {M : Type 1} → statement M
 foot_spec =
     tie.close
     (tie.spec
-    (λ c κs. search laws)  -- has-length-requires
+    (λ c κs. search laws)  -- has_length-requires
     (λ c κs. search laws)  -- nearest-requires
-    (λ c. search laws)  -- returns
-    (λ c. search laws))  -- returns_2
+    (λ c. search laws)  -- returns-then-has_length
+    (λ c. search laws))  -- returns

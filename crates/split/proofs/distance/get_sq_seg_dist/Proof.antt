@@ -18,6 +18,6 @@ pub get_sq_seg_dist_spec : {M : Type 1} → statement M
 get_sq_seg_dist_spec =
     tie.close
     (tie.spec
-    (λ c κs. search laws)  -- place-requires
-    (λ c κs. search laws)  -- foot-requires
+    (λ c κs. search laws)  -- place-at-requires
+    (λ c κs. search laws)  -- foot-f-requires
     (λ c. search laws))  -- returns

@@ -10,5 +10,5 @@ pub has_length_spec : {M : Type 1} → statement M
 has_length_spec =
     tie.close
     (tie.spec
-    (λ c. search laws)  -- returns
-    (λ c. search laws))  -- returns_2
+    (λ c. search laws)  -- returns-then-s
+    (λ c. search laws))  -- returns-else-s

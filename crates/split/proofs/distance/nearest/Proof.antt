@@ -27,6 +27,6 @@ pub nearest_spec : {M : Type 1} → statement M
 nearest_spec =
     tie.close
     (tie.spec
-    (λ c. search laws)  -- returns
-    (λ c. search laws)  -- returns_2
-    (λ c. search laws))  -- returns_3
+    (λ c. search laws)  -- returns-then-t
+    (λ c. search laws)  -- returns-then-t-2
+    (λ c. search laws))  -- returns

@@ -22,6 +22,6 @@ pub distance_at_spec : {M : Type 1} → statement M
 distance_at_spec =
     tie.close
     (tie.spec
-    (λ c κs. search laws)  -- point-at-requires
-    (λ c κs. search laws)  -- get-sq-seg-dist-requires
+    (λ c κs. search laws)  -- point_at-requires
+    (λ c κs. search laws)  -- get_sq_seg_dist-requires
     (λ c. search laws))  -- returns

@@ -20,5 +20,5 @@ pub farther_of_spec : {M : Type 1} → statement M
 farther_of_spec =
     tie.close
     (tie.spec
-    (λ c. search laws)  -- returns
-    (λ c. search laws))  -- returns_2
+    (λ c. search laws)  -- returns-then-a-b
+    (λ c. search laws))  -- returns

@@ -18,12 +18,12 @@ use Rattle.split.proofs.Trees.{split_inside}
 use Rattle.split.proofs.farthest.farthest.Statement.{statement}
 use Rattle.split.proofs.farthest.farthest.Tie as tie
 
-abbrev invariant-loop : tie.invariant-loop
-invariant-loop points first last s best₀ i₀ best i =
+abbrev invariant-loop-i : tie.invariant-loop-i
+invariant-loop-i points first last s best₀ i₀ best i =
     (i ≤ last) × (s ≡ line_of points first last) × (farther (distance_in points first last) (last - i) i best ≡ farthest points first last)
 
-abbrev decreases-loop : tie.decreases-loop
-decreases-loop points first last s best₀ i₀ best i = last - i
+abbrev decreases-loop-i : tie.decreases-loop-i
+decreases-loop-i points first last s best₀ i₀ best i = last - i
 
 module _ (points : List ℤ) (first last : ℕ) where
   -- a distance is worked out from the segment between the ends
@@ -65,17 +65,17 @@ pub farthest_spec : {M : Type 1} → statement M
 farthest_spec =
     tie.close
     (tie.spec
-    invariant-loop
-    decreases-loop
-    (λ c κs. search laws)  -- line-of-requires
-    (λ c. search laws)  -- add-far
-    (λ c. search laws)  -- add-distance-at
-    (λ c κs. search laws)  -- distance-at-requires
-    (λ c. search laws)  -- add-i
-    (λ c. search laws)  -- loop-holds
-    (λ c κs. search laws)  -- distance-at-requires-2
-    (λ c κs. search laws)  -- farther-of-requires
-    (λ c. search laws)  -- add-i-2
-    (λ c. search laws)  -- loop-less
-    (λ c. search laws)  -- loop-again
+    invariant-loop-i
+    decreases-loop-i
+    (λ c κs. search laws)  -- line_of-line-requires
+    (λ c. search laws)  -- overflow_add-far
+    (λ c. search laws)  -- overflow_add-first
+    (λ c κs. search laws)  -- distance_at-requires
+    (λ c. search laws)  -- overflow_add-i
+    (λ c. search laws)  -- loop-i-init
+    (λ c κs. search laws)  -- distance_at-requires-in-loop-i
+    (λ c κs. search laws)  -- farther_of-far-requires
+    (λ c. search laws)  -- overflow_add-i-in-loop-i
+    (λ c. search laws)  -- loop-i-smaller
+    (λ c. search laws)  -- loop-i-preserved
     (λ c. search laws))  -- returns

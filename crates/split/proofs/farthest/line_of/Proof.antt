@@ -24,7 +24,7 @@ pub line_of_spec : {M : Type 1} → statement M
 line_of_spec =
     tie.close
     (tie.spec
-    (λ c κs. search laws)  -- point-at-requires
-    (λ c κs. search laws)  -- point-at-requires-2
+    (λ c κs. search laws)  -- point_at-requires
+    (λ c κs. search laws)  -- point_at-requires-2
     (λ c κs. search laws)  -- between-requires
     (λ c. search laws))  -- returns

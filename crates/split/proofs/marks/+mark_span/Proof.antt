@@ -44,7 +44,7 @@ pub +mark_span_spec : {M : Type 1} → statement M
     (λ c κs. search laws)  -- mark-span-requires
     (λ c. search laws)  -- slice-write-marks
     (λ c κs. simp length-set (omega arith))  -- mark-span-requires-2
-    (λ c. omega (arith, simp length-set at c.before.before.mark-span2.auto.1.1.1.1.0))  -- same-length
+    (λ c. omega (arith, simp length-set at c.before.before.mark_span-then-tolerance-far.auto.marks))  -- same-length
     (λ c. search laws)  -- returns_2
     (λ c. search laws)  -- add-clear
     (λ c κs. search laws)  -- clear-requires

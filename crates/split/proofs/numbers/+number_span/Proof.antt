@@ -54,5 +54,5 @@ pub +number_span_spec : {M : Type 1} → statement M
     (λ c. search laws)  -- mul-out
     (λ c. search laws)  -- slice-write-out
     (λ c κs. (omega arith, (omega arith, omega arith, simp length-set (omega arith), search laws)))  -- number-span-requires-2
-    (λ c. omega (arith, simp length-set at c.before.before.number-span2.auto.1.1.1.1.0))  -- same-length-2
+    (λ c. omega (arith, simp length-set at c.before.before.number_span-2.auto.out))  -- same-length-2
     (λ c. search laws)  -- returns_3

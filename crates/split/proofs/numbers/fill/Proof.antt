@@ -9,12 +9,12 @@ use Rattle.split.proofs.Stores.{one_stored, all_stored}
 use Rattle.split.proofs.numbers.fill.Statement.{statement}
 use Rattle.split.proofs.numbers.fill.Tie as tie
 
-abbrev invariant-loop : tie.invariant-loop
-invariant-loop from to out₀ i₀ out i =
+abbrev invariant-loop-i : tie.invariant-loop-i
+invariant-loop-i from to out₀ i₀ out i =
     (i ≤ to) × (length out ≡ length out₀) × (sets out i (replicate (to - i) zero64) ≡ sets out₀ from (replicate (to - from) zero64))
 
-abbrev decreases-loop : tie.decreases-loop
-decreases-loop from to out₀ i₀ out i = to - i
+abbrev decreases-loop-i : tie.decreases-loop-i
+decreases-loop-i from to out₀ i₀ out i = to - i
 
 ruleset laws = (one_stored, all_stored, rules)
 
@@ -22,13 +22,13 @@ pub fill_spec : {M : Type 1} → statement M
 fill_spec =
     tie.close
     (tie.spec
-    invariant-loop
-    decreases-loop
-    (λ c. search laws)  -- loop-holds
-    (λ c. search laws)  -- mul-out
-    (λ c. search laws)  -- slice-write-out
-    (λ c. search laws)  -- add-i
-    (λ c. search laws)  -- loop-less
-    (λ c. search laws)  -- loop-again
-    (λ c. search laws)  -- same-length
+    invariant-loop-i
+    decreases-loop-i
+    (λ c. search laws)  -- loop-i-init
+    (λ c. search laws)  -- offset_bounds-out-i
+    (λ c. search laws)  -- bounds-out-i
+    (λ c. search laws)  -- overflow_add-i
+    (λ c. search laws)  -- loop-i-smaller
+    (λ c. search laws)  -- loop-i-preserved
+    (λ c. search laws)  -- shape_of-out
     (λ c. search laws))  -- returns

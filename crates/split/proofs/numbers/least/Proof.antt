@@ -21,5 +21,5 @@ pub least_spec : {M : Type 1} → statement M
 least_spec =
     tie.close
     (tie.spec
-    (λ c. search laws)  -- returns
-    (λ c. search laws))  -- returns_2
+    (λ c. search laws)  -- returns-then-b-a
+    (λ c. search laws))  -- returns

@@ -13,10 +13,10 @@ pub inside_number_spec : {M : Type 1} → statement M
 inside_number_spec =
     tie.close
     (tie.spec
-    (λ c. search rules)  -- mul-least
-    (λ c. search rules)  -- shared-slice-read-least
-    (λ c. search rules)  -- mul-least-2
-    (λ c. search rules)  -- shared-slice-read-least-2
+    (λ c. search rules)  -- offset_bounds-out-first
+    (λ c. search rules)  -- bounds-out-first
+    (λ c. search rules)  -- offset_bounds-out-last
+    (λ c. search rules)  -- bounds-out-last
     (λ c κs. search rules)  -- least-requires
     (λ c κs. search rules)  -- least-requires-2
     (λ c. search least_of_three))  -- returns

@@ -7,6 +7,6 @@ pub interior_spec : {M : Type 1} → statement M
 interior_spec =
     tie.close
     (tie.spec
-    (λ c. search rules)  -- sub
-    (λ c. search rules)  -- sub-2
+    (λ c. search rules)  -- overflow_sub-result
+    (λ c. search rules)  -- overflow_sub-result-2
     (λ c. search rules))  -- returns

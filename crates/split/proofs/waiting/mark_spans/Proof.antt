@@ -27,12 +27,12 @@ use Rattle.split.proofs.waiting.mark_spans.Tie as tie
 abbrev Known : List ℤ → Float → ℕ → List ℕ → List ℕ → List ℕ → List ℕ → ℕ → ℕ → ℕ → ℕ → Type 0
 Known points t = Turn points (lt t) Any (mark_piece points t)
 
-abbrev invariant-loop : tie.invariant-loop
-invariant-loop points end tolerance marks₀ waiting₀ first₀ last₀ distances₀ marks waiting first last distances =
+abbrev invariant-loop-last : tie.invariant-loop-last
+invariant-loop-last points end tolerance marks₀ waiting₀ first₀ last₀ distances₀ marks waiting first last distances =
     Known points tolerance end marks₀ marks waiting.first waiting.last waiting.count first last distances
 
-abbrev decreases-loop : tie.decreases-loop
-decreases-loop points end tolerance marks₀ waiting₀ first₀ last₀ distances₀ marks waiting first last distances =
+abbrev decreases-loop-last : tie.decreases-loop-last
+decreases-loop-last points end tolerance marks₀ waiting₀ first₀ last₀ distances₀ marks waiting first last distances =
     to_do_of waiting.first waiting.last waiting.count first last
 
 module _ (points : List ℤ) (t : Float) (end : ℕ) where
@@ -79,32 +79,32 @@ pub mark_spans_spec : {M : Type 1} → statement M
 mark_spans_spec =
     tie.close
     (tie.spec
-    invariant-loop
-    decreases-loop
-    (λ c. begun _ _ _ _ _ _ (search rules) refl refl)  -- loop-holds
-    (λ c. search rules)  -- add-if1
-    (λ c. search rules)  -- same-length
-    (λ c. search laws)  -- returns
-    (λ c. search rules)  -- sub-top
-    (λ c. search rules)  -- mul-first
-    (λ c. search rules)  -- element-copy-out-first
-    (λ c. search rules)  -- mul-last
-    (λ c. search rules)  -- element-copy-out-last
-    (λ c. search laws)  -- loop-less
-    (λ c. search laws)  -- loop-again
-    (λ c κs. search rules)  -- farthest-requires
-    (λ c κs. search rules)  -- interior-requires
-    (λ c. search laws)  -- add-distances
-    (λ c. search rules)  -- slice-write-marks
-    (λ c κs. search laws)  -- one-more-requires
-    (λ c κs. search rules)  -- parts-of-requires
-    (λ c. search rules)  -- mul-waiting
-    (λ c. search rules)  -- element-write-waiting
-    (λ c. search rules)  -- mul-waiting-2
-    (λ c. search rules)  -- element-write-waiting-2
-    (λ c. search laws)  -- loop-less-2
-    (λ c. search laws)  -- loop_again_2
-    (λ c. search rules)  -- add-clear
+    invariant-loop-last
+    decreases-loop-last
+    (λ c. begun _ _ _ _ _ _ (search rules) refl refl)  -- loop-last-init
+    (λ c. search rules)  -- overflow_add-first
+    (λ c. search rules)  -- shape_of-marks-then-k-eq0
+    (λ c. search laws)  -- returns-then-k-eq0
+    (λ c. search rules)  -- overflow_sub-top
+    (λ c. search rules)  -- offset_bounds-waiting-top
+    (λ c. search rules)  -- bounds-waiting-top
+    (λ c. search rules)  -- offset_bounds-waiting-top-then-last-first
+    (λ c. search rules)  -- bounds-waiting-top-then-last-first
+    (λ c. search laws)  -- loop-last-smaller-then-last-first
+    (λ c. search laws)  -- loop-last-preserved-then-last-first
+    (λ c κs. search rules)  -- farthest-far-requires
+    (λ c κs. search rules)  -- interior-distances-requires
+    (λ c. search laws)  -- overflow_add-distances
+    (λ c. search rules)  -- bounds-marks-index
+    (λ c κs. search laws)  -- one_more-requires
+    (λ c κs. search rules)  -- parts_of-parts-requires
+    (λ c. search rules)  -- offset_bounds-waiting-k
+    (λ c. search rules)  -- bounds-waiting-k
+    (λ c. search rules)  -- offset_bounds-waiting-k-then-tolerance-far
+    (λ c. search rules)  -- bounds-waiting-k-then-tolerance-far
+    (λ c. search laws)  -- loop-last-smaller-then-tolerance-far
+    (λ c. search laws)  -- loop-last-preserved-then-tolerance-far
+    (λ c. search rules)  -- overflow_add-first-else-tolerance-far
     (λ c κs. search rules)  -- clear-requires
-    (λ c. search laws)  -- loop-less-3
-    (λ c. search laws))  -- loop-again-3
+    (λ c. search laws)  -- loop-last-smaller
+    (λ c. search laws))  -- loop-last-preserved

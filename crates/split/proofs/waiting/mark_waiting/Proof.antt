@@ -49,13 +49,13 @@ pub mark_waiting_spec : {M : Type 1} → statement M
 mark_waiting_spec =
     tie.close
     (tie.spec
-    (λ c. search laws)  -- returns
-    (λ c. search laws)  -- returns_2
-    (λ c. search laws)  -- returns_3
-    (λ c. search laws)  -- slice-write-marks
-    (λ c. search laws)  -- sub-marks
-    (λ c. simp length-set (omega arith))  -- slice-write-marks-2
-    (λ c. search laws)  -- sub-mark-spans
-    (λ c κs. simp length-set (omega arith))  -- mark-spans-requires
-    (λ c. simp length-set at c.before.before.mark-spans.auto.1.1.1.0)  -- same-length
-    (λ c. search laws))  -- returns-4
+    (λ c. search laws)  -- returns-then-n-eq0
+    (λ c. search laws)  -- returns-then-n-gt4096
+    (λ c. search laws)  -- returns-then-marks-n
+    (λ c. search laws)  -- bounds-marks-0
+    (λ c. search laws)  -- overflow_sub-marks
+    (λ c. simp length-set (omega arith))  -- bounds-marks-n
+    (λ c. search laws)  -- overflow_sub-n
+    (λ c κs. simp length-set (omega arith))  -- mark_spans-requires
+    (λ c. simp length-set at c.before.before.mark_spans.auto.marks)  -- shape_of-marks
+    (λ c. search laws))  -- returns

@@ -29,12 +29,12 @@ use Rattle.split.proofs.waiting.number_spans.Tie as tie
 abbrev Known : List ℤ → ℕ → List Float → List Float → List ℕ → List ℕ → ℕ → ℕ → ℕ → ℕ → Type 0
 Known points = Turn points nonzero Ends (number_piece points)
 
-abbrev invariant-loop : tie.invariant-loop
-invariant-loop points end out₀ waiting₀ first₀ last₀ distances₀ out waiting first last distances =
+abbrev invariant-loop-last : tie.invariant-loop-last
+invariant-loop-last points end out₀ waiting₀ first₀ last₀ distances₀ out waiting first last distances =
     Known points end out₀ out waiting.first waiting.last waiting.count first last distances
 
-abbrev decreases-loop : tie.decreases-loop
-decreases-loop points end out₀ waiting₀ first₀ last₀ distances₀ out waiting first last distances =
+abbrev decreases-loop-last : tie.decreases-loop-last
+decreases-loop-last points end out₀ waiting₀ first₀ last₀ distances₀ out waiting first last distances =
     to_do_of waiting.first waiting.last waiting.count first last
 
 module _ (points : List ℤ) (end : ℕ) where
@@ -90,34 +90,34 @@ pub number_spans_spec : {M : Type 1} → statement M
 number_spans_spec =
     tie.close
     (tie.spec
-    invariant-loop
-    decreases-loop
-    (λ c. begun _ _ _ _ _ (search rules) (search rules) (search rules) (search rules) refl refl)  -- loop-holds
-    (λ c. search rules)  -- add-if1
-    (λ c. search rules)  -- same-length
-    (λ c. search laws)  -- returns
-    (λ c. search rules)  -- sub-top
-    (λ c. search rules)  -- mul-first
-    (λ c. search rules)  -- element-copy-out-first
-    (λ c. search rules)  -- mul-last
-    (λ c. search rules)  -- element-copy-out-last
-    (λ c. search laws)  -- loop-less
-    (λ c. search laws)  -- loop-again
-    (λ c κs. search rules)  -- farthest-requires
-    (λ c κs. search rules)  -- interior-requires
-    (λ c. search laws)  -- add-distances
-    (λ c. search rules)  -- add-fill
+    invariant-loop-last
+    decreases-loop-last
+    (λ c. begun _ _ _ _ _ (search rules) (search rules) (search rules) (search rules) refl refl)  -- loop-last-init
+    (λ c. search rules)  -- overflow_add-first
+    (λ c. search rules)  -- shape_of-out-then-k-eq0
+    (λ c. search laws)  -- returns-then-k-eq0
+    (λ c. search rules)  -- overflow_sub-top
+    (λ c. search rules)  -- offset_bounds-waiting-top
+    (λ c. search rules)  -- bounds-waiting-top
+    (λ c. search rules)  -- offset_bounds-waiting-top-then-last-first
+    (λ c. search rules)  -- bounds-waiting-top-then-last-first
+    (λ c. search laws)  -- loop-last-smaller-then-last-first
+    (λ c. search laws)  -- loop-last-preserved-then-last-first
+    (λ c κs. search rules)  -- farthest-far-requires
+    (λ c κs. search rules)  -- interior-distances-requires
+    (λ c. search laws)  -- overflow_add-distances
+    (λ c. search rules)  -- overflow_add-first-then-distance
     (λ c κs. search rules)  -- fill-requires
-    (λ c. search laws)  -- loop-less-2
-    (λ c. search laws)  -- loop_again_2
-    (λ c κs. search rules)  -- inside-number-requires
-    (λ c. search rules)  -- mul-out
-    (λ c. search rules)  -- slice-write-out
-    (λ c κs. search laws)  -- one-more-requires
-    (λ c κs. search rules)  -- parts-of-requires
-    (λ c. search rules)  -- mul-waiting
-    (λ c. search rules)  -- element-write-waiting
-    (λ c. search rules)  -- mul-waiting-2
-    (λ c. search rules)  -- element-write-waiting-2
-    (λ c. search laws)  -- loop-less-3
-    (λ c. search laws))  -- loop-again-3
+    (λ c. search laws)  -- loop-last-smaller-then-distance
+    (λ c. search laws)  -- loop-last-preserved-then-distance
+    (λ c κs. search rules)  -- inside_number-requires
+    (λ c. search rules)  -- offset_bounds-out-index
+    (λ c. search rules)  -- bounds-out-index
+    (λ c κs. search laws)  -- one_more-requires
+    (λ c κs. search rules)  -- parts_of-parts-requires
+    (λ c. search rules)  -- offset_bounds-waiting-k
+    (λ c. search rules)  -- bounds-waiting-k
+    (λ c. search rules)  -- offset_bounds-waiting-k-else-distance
+    (λ c. search rules)  -- bounds-waiting-k-else-distance
+    (λ c. search laws)  -- loop-last-smaller
+    (λ c. search laws))  -- loop-last-preserved

@@ -62,14 +62,14 @@ pub number_waiting_spec : {M : Type 1} → statement M
 number_waiting_spec =
     tie.close
     (tie.spec
-    (λ c. search laws)  -- returns
-    (λ c. search laws)  -- returns_2
-    (λ c. search laws)  -- returns_3
-    (λ c. search laws)  -- slice-write-out
-    (λ c. search laws)  -- sub-out
-    (λ c. search laws)  -- mul-out
-    (λ c. simp length-set (omega arith))  -- slice-write-out-2
-    (λ c. search laws)  -- sub-number-spans
-    (λ c κs. (omega arith, omega arith, simp length-set (omega arith), search laws, search laws))  -- number-spans-requires
-    (λ c. simp length-set at c.before.before.number-spans.auto.1.1.0)  -- same-length
-    (λ c. search laws))  -- returns-4
+    (λ c. search laws)  -- returns-then-n-eq0
+    (λ c. search laws)  -- returns-then-n-gt4096
+    (λ c. search laws)  -- returns-then-out-n
+    (λ c. search laws)  -- bounds-out-0
+    (λ c. search laws)  -- overflow_sub-out
+    (λ c. search laws)  -- offset_bounds-out-n
+    (λ c. simp length-set (omega arith))  -- bounds-out-n
+    (λ c. search laws)  -- overflow_sub-n
+    (λ c κs. (omega arith, omega arith, simp length-set (omega arith), search laws, search laws))  -- number_spans-requires
+    (λ c. simp length-set at c.before.before.number_spans.auto.out)  -- shape_of-out
+    (λ c. search laws))  -- returns

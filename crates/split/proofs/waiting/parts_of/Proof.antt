@@ -8,7 +8,7 @@ pub parts_of_spec : {M : Type 1} → statement M
 parts_of_spec =
     tie.close
     (tie.spec
-    (λ c. search rules)  -- sub-if1
-    (λ c. search rules)  -- sub-if1-2
-    (λ c. search first_shorter)  -- returns
-    (λ c. search last_shorter))  -- returns_2
+    (λ c. search rules)  -- overflow_sub-index
+    (λ c. search rules)  -- overflow_sub-last
+    (λ c. search first_shorter)  -- returns-then-index-first
+    (λ c. search last_shorter))  -- returns

@@ -10,10 +10,10 @@ pub area_spec : {M : Type 1} → statement M
 area_spec =
     tie.close
     (tie.spec
-    (λ c κs. search laws)  -- difference-requires
-    (λ c κs. search laws)  -- difference-requires-2
-    (λ c κs. search laws)  -- difference-requires-3
-    (λ c κs. search laws)  -- difference-requires-4
+    (λ c κs. search laws)  -- difference-x1-requires
+    (λ c κs. search laws)  -- difference-y1-requires
+    (λ c κs. search laws)  -- difference-x2-requires
+    (λ c κs. search laws)  -- difference-y2-requires
     (λ c κs. search laws)  -- cross-requires
-    (λ c. search laws)  -- cast-result
+    (λ c. search laws)  -- overflow_cast-result
     (λ c. search laws))  -- returns

@@ -40,5 +40,5 @@ cross_spec =
     (tie.spec
     (λ c κs. search laws)  -- product-requires
     (λ c κs. search laws)  -- product-requires-2
-    (λ c. search laws)  -- sub-result
+    (λ c. search laws)  -- overflow_sub-result
     (λ c. search laws))  -- returns

@@ -17,7 +17,7 @@ pub product_spec : {M : Type 1} → statement M
 product_spec =
     tie.close
     (tie.spec
-    (λ c. simp (to_z-of_z, c.ranges.a) (a c))  -- cast-result
-    (λ c. simp (to_z-of_z, c.ranges.b) (b c))  -- cast-result-2
-    (λ c. simp (to_z-of_z, c.ranges.a, c.ranges.b, a c, b c) (product_fits c.args.a c.args.b c.ranges.a c.ranges.b))  -- mul-result
+    (λ c. simp (to_z-of_z, c.ranges.a) (a c))  -- overflow_cast-result
+    (λ c. simp (to_z-of_z, c.ranges.b) (b c))  -- overflow_cast-result-2
+    (λ c. simp (to_z-of_z, c.ranges.a, c.ranges.b, a c, b c) (product_fits c.args.a c.args.b c.ranges.a c.ranges.b))  -- overflow_mul-result
     (λ c. simp (to_z-of_z, c.ranges.a, c.ranges.b, a c, b c, product_fits c.args.a c.args.b c.ranges.a c.ranges.b)))  -- returns

@@ -45,11 +45,11 @@ pub signed_area_spec : {M : Type 1} → statement M
 signed_area_spec =
     tie.close
     (tie.spec
-    (λ c κs. search laws)  -- point-in-range-requires
-    (λ c. search laws)  -- returns
-    (λ c κs. search laws)  -- point-in-range-requires-2
-    (λ c. search laws)  -- returns_2
-    (λ c κs. search laws)  -- point-in-range-requires-3
-    (λ c. search laws)  -- returns_3
+    (λ c κs. search laws)  -- point_in_range-requires
+    (λ c. search laws)  -- returns-then-not-point_in_range
+    (λ c κs. search laws)  -- point_in_range-requires-2
+    (λ c. search laws)  -- returns-then-not-point_in_range-2
+    (λ c κs. search laws)  -- point_in_range-requires-3
+    (λ c. search laws)  -- returns-then-not-point_in_range-3
     (λ c κs. search laws)  -- area-requires
-    (λ c. search laws))  -- returns-4
+    (λ c. search laws))  -- returns

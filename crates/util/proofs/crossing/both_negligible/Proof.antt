@@ -11,6 +11,6 @@ both_negligible_spec =
     tie.close
     (tie.spec
     (λ c κs. search laws)  -- negligible-requires
-    (λ c κs. search laws)  -- negligible-requires
-    (λ c. search laws)  -- returns
-    (λ c. search laws))  -- returns_2
+    (λ c κs. search laws)  -- negligible-requires-then-negligible
+    (λ c. search laws)  -- returns-then-negligible
+    (λ c. search laws))  -- returns-else-negligible

@@ -23,8 +23,8 @@ pub crossing_spec : {M : Type 1} → statement M
 crossing_spec =
     tie.close
     (tie.spec
-    (λ c κs. search laws)  -- across-requires
-    (λ c κs. search laws)  -- across-requires-2
-    (λ c κs. search laws)  -- across-requires-3
+    (λ c κs. search laws)  -- across-denom-requires
+    (λ c κs. search laws)  -- across-numera-requires
+    (λ c κs. search laws)  -- across-numerb-requires
     (λ c κs. search laws)  -- judged-requires
     (λ c. search laws))  -- returns

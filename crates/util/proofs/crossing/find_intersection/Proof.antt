@@ -37,13 +37,13 @@ pub find_intersection_spec : {M : Type 1} → statement M
 find_intersection_spec =
     tie.close
     (tie.spec
-    (λ c κs. search laws)  -- point-in-range-f64-requires
-    (λ c. search laws)  -- returns
-    (λ c κs. search laws)  -- point-in-range-f64-requires-2
-    (λ c. search laws)  -- returns_2
-    (λ c κs. search laws)  -- point-in-range-f64-requires-3
-    (λ c. search laws)  -- returns_3
-    (λ c κs. search laws)  -- point-in-range-f64-requires-4
-    (λ c. search laws)  -- returns-4
+    (λ c κs. search laws)  -- point_in_range_f64-requires
+    (λ c. search laws)  -- returns-then-not-point_in_range_f64
+    (λ c κs. search laws)  -- point_in_range_f64-requires-2
+    (λ c. search laws)  -- returns-then-not-point_in_range_f64-2
+    (λ c κs. search laws)  -- point_in_range_f64-requires-3
+    (λ c. search laws)  -- returns-then-not-point_in_range_f64-3
+    (λ c κs. search laws)  -- point_in_range_f64-requires-4
+    (λ c. search laws)  -- returns-then-not-point_in_range_f64-4
     (λ c κs. search laws)  -- crossing-requires
-    (λ c. search laws))  -- returns_5
+    (λ c. search laws))  -- returns

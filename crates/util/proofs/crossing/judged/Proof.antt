@@ -30,9 +30,9 @@ judged_spec =
     tie.close
     (tie.spec
     (λ c κs. search laws)  -- negligible-requires
-    (λ c κs. search laws)  -- both-negligible-requires
+    (λ c κs. search laws)  -- both_negligible-requires
     (λ c κs. search laws)  -- middle-requires
-    (λ c. search laws)  -- returns
-    (λ c. search laws)  -- returns_2
+    (λ c. search laws)  -- returns-then-both_negligible
+    (λ c. search laws)  -- returns-then-negligible
     (λ c κs. search laws)  -- along-requires
-    (λ c. search laws))  -- returns_3
+    (λ c. search laws))  -- returns

@@ -23,5 +23,5 @@ pub negligible_spec : {M : Type 1} → statement M
 negligible_spec =
     tie.close
     (tie.spec
-    (λ c. search laws)  -- returns
-    (λ c. search laws))  -- returns_2
+    (λ c. search laws)  -- returns-then-v
+    (λ c. search laws))  -- returns-else-v

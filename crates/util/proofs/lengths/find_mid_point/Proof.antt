@@ -28,9 +28,9 @@ pub find_mid_point_spec : {M : Type 1} → statement M
 find_mid_point_spec =
     tie.close
     (tie.spec
-    (λ c κs. search laws)  -- point-in-range-f64-requires
-    (λ c. search laws)  -- returns
-    (λ c κs. search laws)  -- point-in-range-f64-requires-2
-    (λ c. search laws)  -- returns_2
+    (λ c κs. search laws)  -- point_in_range_f64-requires
+    (λ c. search laws)  -- returns-then-not-point_in_range_f64
+    (λ c κs. search laws)  -- point_in_range_f64-requires-2
+    (λ c. search laws)  -- returns-then-not-point_in_range_f64-2
     (λ c κs. search laws)  -- middle-requires
-    (λ c. search laws))  -- returns_3
+    (λ c. search laws))  -- returns

@@ -46,6 +46,6 @@ length_i32_spec =
     (λ c κs. search laws)  -- square-requires
     (λ c κs. search laws)  -- square-requires-2
     (λ c κs. search laws)  -- sum-requires
-    (λ c. search laws)  -- int-to-float-sqrt
+    (λ c. search laws)  -- int_to_float-sum
     (λ c κs. search laws)  -- sqrt-requires
     (λ c. search laws))  -- returns

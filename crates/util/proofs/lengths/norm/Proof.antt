@@ -24,7 +24,7 @@ pub norm_spec : {M : Type 1} → statement M
 norm_spec =
     tie.close
     (tie.spec
-    (λ c κs. search laws)  -- point-in-range-f64-requires
+    (λ c κs. search laws)  -- point_in_range_f64-requires
     (λ c κs. search laws)  -- length-requires
-    (λ c. search laws)  -- returns
-    (λ c. search laws))  -- returns_2
+    (λ c. search laws)  -- returns-then-point_in_range_f64
+    (λ c. search laws))  -- returns

@@ -41,7 +41,7 @@ pub norm_i32_spec : {M : Type 1} → statement M
 norm_i32_spec =
     tie.close
     (tie.spec
-    (λ c κs. search laws)  -- point-in-range-requires
-    (λ c κs. search laws)  -- length-i32-requires
-    (λ c. search laws)  -- returns
-    (λ c. search laws))  -- returns_2
+    (λ c κs. search laws)  -- point_in_range-requires
+    (λ c κs. search laws)  -- length_i32-requires
+    (λ c. search laws)  -- returns-then-point_in_range
+    (λ c. search laws))  -- returns

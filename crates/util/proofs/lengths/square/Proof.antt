@@ -10,5 +10,5 @@ pub square_spec : {M : Type 1} → statement M
 square_spec =
     tie.close
     (tie.spec
-    (λ c. search laws)  -- mul-result
+    (λ c. search laws)  -- overflow_mul-result
     (λ c. search laws))  -- returns

@@ -10,5 +10,5 @@ pub sum_spec : {M : Type 1} → statement M
 sum_spec =
     tie.close
     (tie.spec
-    (λ c. search laws)  -- add-result
+    (λ c. search laws)  -- overflow_add-result
     (λ c. search laws))  -- returns

@@ -11,6 +11,6 @@ either_off_spec =
     tie.close
     (tie.spec
     (λ c κs. search laws)  -- off-requires
-    (λ c κs. search laws)  -- off-requires
-    (λ c. search laws)  -- returns
-    (λ c. search laws))  -- returns_2
+    (λ c κs. search laws)  -- off-requires-else-off
+    (λ c. search laws)  -- returns-then-off
+    (λ c. search laws))  -- returns-else-off

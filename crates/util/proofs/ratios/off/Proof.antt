@@ -30,5 +30,5 @@ pub off_spec : {M : Type 1} → statement M
 off_spec =
     tie.close
     (tie.spec
-    (λ c. search laws)  -- returns
-    (λ c. search laws))  -- returns_2
+    (λ c. search laws)  -- returns-then-mu
+    (λ c. search laws))  -- returns-else-mu

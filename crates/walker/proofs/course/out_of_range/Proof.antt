@@ -10,7 +10,7 @@ pub out_of_range_spec : {M : Type 1} → statement M
 out_of_range_spec =
     tie.close
     (tie.spec
-    (λ c κs. search laws)  -- in-range-requires
-    (λ c. search laws)  -- returns
-    (λ c κs. search laws)  -- in-range-requires-2
-    (λ c. search laws))  -- returns_2
+    (λ c κs. search laws)  -- in_range-requires
+    (λ c. search laws)  -- returns-then-not-in_range
+    (λ c κs. search laws)  -- in_range-requires-2
+    (λ c. search laws))  -- returns

@@ -10,15 +10,15 @@ pub walk_spec : {M : Type 1} → statement M
 walk_spec =
     tie.close
     (tie.spec
-    (λ c κs. search laws)  -- bad-chart-requires
-    (λ c. search laws)  -- returns
-    (λ c κs. search laws)  -- out-of-range-requires
-    (λ c. search laws)  -- returns_2
-    (λ c κs. search laws)  -- way-in-requires
-    (λ c. search laws)  -- returns_3
-    (λ c κs. search laws)  -- count-requires
-    (λ c. search laws)  -- returns-4
-    (λ c. search laws)  -- returns_5
+    (λ c κs. search laws)  -- bad_chart-requires
+    (λ c. search laws)  -- returns-then-bad_chart
+    (λ c κs. search laws)  -- out_of_range-requires
+    (λ c. search laws)  -- returns-then-out_of_range
+    (λ c κs. search laws)  -- way_in-way-requires
+    (λ c. search laws)  -- returns-then-way-eq-NONE
+    (λ c κs. search laws)  -- count-points-requires
+    (λ c. search laws)  -- returns-then-points-eq0
+    (λ c. search laws)  -- returns-then-out-points
     (λ c κs. (search laws, search laws, search laws))  -- write-requires
-    (λ c. search laws)  -- same-length
-    (λ c. search laws))  -- returns_6
+    (λ c. search laws)  -- shape_of-out
+    (λ c. search laws))  -- returns

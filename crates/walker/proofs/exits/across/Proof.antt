@@ -10,6 +10,6 @@ pub across_spec : {M : Type 1} → statement M
 across_spec =
     tie.close
     (tie.spec
-    (λ c. search laws)  -- returns
-    (λ c. search laws)  -- returns_2
-    (λ c. search laws))  -- returns_3
+    (λ c. search laws)  -- returns-then-way-eq1
+    (λ c. search laws)  -- returns-then-way-eq3
+    (λ c. search laws))  -- returns

@@ -10,6 +10,6 @@ pub downward_spec : {M : Type 1} → statement M
 downward_spec =
     tie.close
     (tie.spec
-    (λ c. search laws)  -- returns
-    (λ c. search laws)  -- returns_2
-    (λ c. search laws))  -- returns_3
+    (λ c. search laws)  -- returns-then-way-eq2
+    (λ c. search laws)  -- returns-then-way-eq0
+    (λ c. search laws))  -- returns

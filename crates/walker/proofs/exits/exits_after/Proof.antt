@@ -11,11 +11,11 @@ unfolding right_after
 exits_after_spec =
     tie.close
     (tie.spec
-    (λ c. search laws)  -- returns
-    (λ c. search laws)  -- returns_2
-    (λ c. search laws)  -- returns_3
-    (λ c. search laws)  -- returns-4
-    (λ c. search laws)  -- returns_5
-    (λ c. search laws)  -- returns_6
-    (λ c. search laws)  -- returns_7
-    (λ c. search laws))  -- returns-8
+    (λ c. search laws)  -- returns-then-way-eq0
+    (λ c. search laws)  -- returns-then-way-eq1
+    (λ c. search laws)  -- returns-then-way-eq2
+    (λ c. search laws)  -- returns-then-clockwise
+    (λ c. search laws)  -- returns-then-way-eq0-2
+    (λ c. search laws)  -- returns-then-way-eq1-2
+    (λ c. search laws)  -- returns-then-way-eq2-2
+    (λ c. search laws))  -- returns

@@ -10,9 +10,9 @@ pub first_exit_spec : {M : Type 1} → statement M
 first_exit_spec =
     tie.close
     (tie.spec
-    (λ c κs. search laws)  -- first-exits-requires
-    (λ c. search laws)  -- mul-result
-    (λ c. search laws)  -- cast-result
-    (λ c. search laws)  -- shr-result
-    (λ c. search laws)  -- cast-result-2
+    (λ c κs. search laws)  -- first_exits-requires
+    (λ c. search laws)  -- overflow_mul-result
+    (λ c. search laws)  -- overflow_cast-result
+    (λ c. search laws)  -- overflow_shr-result
+    (λ c. search laws)  -- overflow_cast-result-2
     (λ c. search laws))  -- returns

@@ -11,5 +11,5 @@ unfolding right_first
 first_exits_spec =
     tie.close
     (tie.spec
-    (λ c. search laws)  -- returns
-    (λ c. search laws))  -- returns_2
+    (λ c. search laws)  -- returns-then-clockwise
+    (λ c. search laws))  -- returns

@@ -12,5 +12,5 @@ way_in_spec =
     tie.close
     (tie.spec
     (λ c κs. search laws)  -- around-requires
-    (λ c κs. search laws)  -- first-exit-requires
+    (λ c κs. search laws)  -- first_exit-requires
     (λ c. search laws))  -- returns

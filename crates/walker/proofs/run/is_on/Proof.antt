@@ -10,5 +10,5 @@ pub is_on_spec : {M : Type 1} → statement M
 is_on_spec =
     tie.close
     (tie.spec
-    (λ c. search laws)  -- returns
-    (λ c. search laws))  -- returns_2
+    (λ c. search laws)  -- returns-then-place-start
+    (λ c. search laws))  -- returns

@@ -34,12 +34,12 @@ pub inside_spec : {M : Type 1} → statement M
 inside_spec =
     tie.close
     (tie.spec
-    (λ c. search laws)  -- enum-told
-    (λ c. search laws)  -- enum-told-2
-    (λ c. search laws)  -- enum-known-self
-    (λ c κs. search laws)  -- either-off-requires
-    (λ c. search laws)  -- enum-told-3
-    (λ c. search laws)  -- returns
-    (λ c. search laws)  -- returns_2
-    (λ c. search laws)  -- returns_3
-    (λ c. search laws))  -- returns-4
+    (λ c. search laws)  -- enum_told-1
+    (λ c. search laws)  -- enum_told-in-Coincide
+    (λ c. search laws)  -- enum_known-self
+    (λ c κs. search laws)  -- either_off-requires
+    (λ c. search laws)  -- enum_told-in-Refused
+    (λ c. search laws)  -- returns-in-Parallel
+    (λ c. search laws)  -- returns-in-Coincide
+    (λ c. search laws)  -- returns-in-Cross
+    (λ c. search laws))  -- returns-in-Refused
