@@ -145,15 +145,15 @@ module _ (list : List ℤ) (marks : List ℕ) where
             let here : i + 1 - 1 ≡ i = omega arith in
             record {
               along = rw e (passed list good i prev sums.whole c.along h p is (sums.whole +ℤ edge prev p) refl);
-              kept_left = rw e (ap (λ (z : ℤ). sums.kept +ℤ z) (sym (kept_same each i h drop from)) ∙ c.kept-left);
+              kept_left = rw e (ap (λ (z : ℤ). sums.kept +ℤ z) (sym (kept_same each i h drop from)) ∙ c.kept_left);
               gaps_left =
                   rw (e, is)
                   (in_the_gap sums.gaps (edge prev (point_at list i)) (back_to from (point_at list i) (up_to_kept (to_come (i + 1)) (ahead list (i + 1))))
                   (area_of_all (gaps (to_come (i + 1)) (ahead list (i + 1))))
-                  ∙ ap (λ (z : ℤ). sums.gaps +ℤ z) (sym (gap_goes_on each i h drop from prev)) ∙ c.gaps-left);
+                  ∙ ap (λ (z : ℤ). sums.gaps +ℤ z) (sym (gap_goes_on each i h drop from prev)) ∙ c.gaps_left);
               kept_small = rw e (omega (arith, c.kept_small));
-              gaps_small = rw e (omega (arith, abs_add_le sums.gaps (edge prev p) c.gaps-small on_the_edge));
-              near_from = c.near-from;
+              gaps_small = rw e (omega (arith, abs_add_le sums.gaps (edge prev p) c.gaps_small on_the_edge));
+              near_from = c.near_from;
               kept_is = λ t. absurd (false≢true (sym t ∙ rw here drop));
             }
 
@@ -161,22 +161,22 @@ module _ (list : List ℤ) (marks : List ℕ) where
         pub point_kept : (get_or marks i 0 ≡ 0 → ⊥) → (all : Areas) → all ≡ chord_added step from p → Chosen (i + 1) p p all
         point_kept n all f =
             let kept : eqb (get_or marks i 0) 0 ≡ false = ne_eqb _ _ n in
-            let chord : nat_abs (edge from p) ≤ 536805378 = small_edge from p c.near-from near in
+            let chord : nat_abs (edge from p) ≤ 536805378 = small_edge from p c.near_from near in
             record {
               along = rw (f, e) (passed list good i prev sums.whole c.along h p is (sums.whole +ℤ edge prev p) refl);
               kept_left =
                   rw (f, e, is)
                   (one_more sums.kept (edge from (point_at list i)) (kept_ahead (i + 1) (point_at list i))
-                  ∙ ap (λ (z : ℤ). sums.kept +ℤ z) (sym (kept_next each i h kept from)) ∙ c.kept-left);
+                  ∙ ap (λ (z : ℤ). sums.kept +ℤ z) (sym (kept_next each i h kept from)) ∙ c.kept_left);
               gaps_left =
                   rw (f, e, is)
                   (closes_the_gap sums.gaps (edge prev (point_at list i)) (edge from (point_at list i)) (edge (point_at list i) from)
                   (gaps_ahead (i + 1) (point_at list i) (point_at list i)) (walked_back from (point_at list i))
-                  ∙ ap (λ (z : ℤ). sums.gaps +ℤ z) (sym (gap_next each i h kept from prev)) ∙ c.gaps-left);
+                  ∙ ap (λ (z : ℤ). sums.gaps +ℤ z) (sym (gap_next each i h kept from prev)) ∙ c.gaps_left);
               kept_small = rw (f, e) (omega (arith, abs_add_le sums.kept (edge from p) c.kept_small chord));
               gaps_small =
                   rw (f, e)
-                  (omega (arith, abs_sub_le (sums.gaps +ℤ edge prev p) (edge from p) (abs_add_le sums.gaps (edge prev p) c.gaps-small on_the_edge) chord));
+                  (omega (arith, abs_sub_le (sums.gaps +ℤ edge prev p) (edge from p) (abs_add_le sums.gaps (edge prev p) c.gaps_small on_the_edge) chord));
               near_from = near;
               kept_is = λ t. refl;
             }
@@ -186,22 +186,22 @@ module _ (list : List ℤ) (marks : List ℕ) where
       unfolding three_areas back_to area_of_all
       chosen_ended most done p is r e =
           let at : length marks - 1 ≡ i - 1 = omega (arith, each) in
-          let same : prev ≡ from = c.kept-is (rw (← at) (last_kept marks ends)) in
+          let same : prev ≡ from = c.kept_is (rw (← at) (last_kept marks ends)) in
           let none : ahead list i ≡ [] = none_ahead list i (omega arith) in
           let whole : sums.whole +ℤ edge prev p ≡ twice_area (points list) =
           ended list good i prev sums.whole c.along (omega arith) (sums.whole +ℤ edge prev p) (ap (λ (q : PointI32). sums.whole +ℤ edge prev q) is) in
           let kept : sums.kept +ℤ edge prev p ≡ twice_area (select marks (points list)) =
           rw (same, is) (subst (λ (ps : List PointI32). sums.kept +ℤ back_to (first list) from ps ≡ twice_area (select marks (points list)))
-          (ap (select (to_come i)) none ∙ no_points (to_come i)) c.kept-left) in
+          (ap (select (to_come i)) none ∙ no_points (to_come i)) c.kept_left) in
           let opened : sums.gaps +ℤ gaps_ahead i from prev ≡ sums.gaps +ℤ (edge prev from +ℤ pos 0) =
           rw (none, nothing_left (to_come i), no_gap_left (to_come i)) in
           let gap : sums.gaps ≡ area_of_all (gaps marks (points list)) =
-          sym (no_gap_open sums.gaps (edge prev from) (ap (λ (q : PointI32). edge q from) same ∙ to_itself from)) ∙ sym opened ∙ c.gaps-left in
+          sym (no_gap_open sums.gaps (edge prev from) (ap (λ (q : PointI32). edge q from) same ∙ to_itself from)) ∙ sym opened ∙ c.gaps_left in
           e ∙ rw (← whole, ← kept, ← gap)
 
 module _ (list : List ℤ) (marks : List ℕ) (i : ℕ) (prev from : PointI32) (sums : Areas) (c : Chosen list marks i prev from sums) where
   pub room_for_an_edge : i ≤ 4096 → Small sums
-  room_for_an_edge few = record { whole = omega (arith, c.along.small); kept = omega (arith, c.kept_small); gaps = omega (arith, c.gaps-small) }
+  room_for_an_edge few = record { whole = omega (arith, c.along.small); kept = omega (arith, c.kept_small); gaps = omega (arith, c.gaps_small) }
 
   pub near_last : bad_points list ≡ false → Near prev
   near_last good = near_prev list good i prev sums.whole c.along

@@ -3,6 +3,7 @@
 // point turns from the nearest before it that differs to the nearest behind it that does.
 //
 // Lists of points are x, y, x, y; flags are bytes, 1 for a corner and 0 for none.
+#![tactic(auto)]
 mod flags;
 mod nearest;
 mod turns;

@@ -7,6 +7,7 @@
 // then nothing can fail. Where a list is split, the parts that wait stand in a list of fixed size, so that the
 // stack does not grow (`split::mark_waiting`, `split::number_waiting`).
 // `simplify_douglas_peucker_counted` and `numbers_counted` also answer how many distances were computed.
+#![tactic(auto)]
 mod both_passes;
 mod douglas_peucker;
 mod keep;

@@ -1,6 +1,7 @@
 // What a frame asks for, read off its bytes: for `frames`, which makes the call and answers it.
 //
 // Nothing fails: what is no frame is answered so.
+#![tactic(auto)]
 mod frame;
 mod listed;
 mod two_bytes;

@@ -7,6 +7,7 @@
 // over the segment length those of the segments beside it; where a point enters, how far out it lies, and
 // the length of one new segment or both. The Rust takes one more there, since it works out the distance
 // twice.
+#![tactic(auto)]
 mod positions;
 mod refusals;
 mod scheme;

@@ -84,25 +84,25 @@ module _ (list : List ℤ) (tolerance : Float) (marks : List ℕ) (many : Bool) 
             done r is =
                 rw (← m, e, ← b, f, ne_eqb _ _ some, ← w, g, le-ltb _ _ l, is, front, laid)
 
-returns_6 : tie.Need-returns-6
+returns_6 : tie.Need-returns
 returns_6 c = search done
 
 pub areas_at_spec : {M : Type 1} → statement M
 areas_at_spec =
     tie.close
     (tie.spec
-    (λ c κs. tt)  -- too-many-requires
-    (λ c. search too_many_lem)  -- returns
-    (λ c κs. tt)  -- bad-points-requires
-    (λ c. search bad_point)  -- returns_2
-    (λ c. search none)  -- returns_3
-    (λ c κs. tt)  -- bad-sq-tolerance-requires
-    (λ c. search bad_tolerance_lem)  -- returns-4
-    (λ c. search no_marks)  -- returns_5
-    (λ c κs. tt)  -- mark-waiting-requires
-    (λ c. search rules)  -- sub-add-up
-    (λ c. search rules)  -- part-add-up-start
-    (λ c. search rules)  -- part-add-up-end
-    (λ c κs. (search good, omega arith, search few, search a_mark_each, search both_ends))  -- add-up-requires
-    (λ c. search rules)  -- same-length
+    (λ c κs. tt)  -- too_many-requires
+    (λ c. search too_many_lem)  -- returns-then-too_many
+    (λ c κs. tt)  -- bad_points-requires
+    (λ c. search bad_point)  -- returns-then-bad_points
+    (λ c. search none)  -- returns-then-n-eq0
+    (λ c κs. tt)  -- bad_sq_tolerance-requires
+    (λ c. search bad_tolerance_lem)  -- returns-then-bad_sq_tolerance
+    (λ c. search no_marks)  -- returns-then-marks-n
+    (λ c κs. tt)  -- mark_waiting-requires
+    (λ c. search rules)  -- slice_bounds-add_up-count
+    (λ c. search rules)  -- slice_bounds-add_up-start
+    (λ c. search rules)  -- slice_bounds-add_up-end
+    (λ c κs. (search good, omega arith, search few, search a_mark_each, search both_ends))  -- add_up-requires
+    (λ c. search rules)  -- shape_of-marks
     returns_6)

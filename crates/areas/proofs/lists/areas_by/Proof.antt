@@ -71,14 +71,14 @@ pub areas_by_spec : {M : Type 1} → statement M
 areas_by_spec =
     tie.close
     (tie.spec
-    (λ c κs. tt)  -- too-many-requires
-    (λ c. search too_many_lem)  -- returns
-    (λ c κs. tt)  -- bad-points-requires
-    (λ c. search bad_point)  -- returns_2
-    (λ c. search none)  -- returns_3
-    (λ c κs. tt)  -- bad-flags-requires
-    (λ c. search bad_flag)  -- returns-4
-    (λ c κs. search flag_there)  -- ends-kept-requires
-    (λ c. search an_end_dropped)  -- returns_5
-    (λ c κs. (search good, omega arith, search few, search each, search both_ends))  -- add-up-requires
-    (λ c. search done))  -- returns_6
+    (λ c κs. tt)  -- too_many-requires
+    (λ c. search too_many_lem)  -- returns-then-too_many
+    (λ c κs. tt)  -- bad_points-requires
+    (λ c. search bad_point)  -- returns-then-bad_points
+    (λ c. search none)  -- returns-then-n-eq0
+    (λ c κs. tt)  -- bad_flags-requires
+    (λ c. search bad_flag)  -- returns-then-bad_flags
+    (λ c κs. search flag_there)  -- ends_kept-requires
+    (λ c. search an_end_dropped)  -- returns-then-not-ends_kept
+    (λ c κs. (search good, omega arith, search few, search each, search both_ends))  -- add_up-requires
+    (λ c. search done))  -- returns

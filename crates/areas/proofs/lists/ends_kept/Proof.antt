@@ -26,8 +26,8 @@ pub ends_kept_spec : {M : Type 1} → statement M
 ends_kept_spec =
     tie.close
     (tie.spec
-    (λ c. search laws)  -- shared-slice-read-if1
-    (λ c. search laws)  -- sub-result
-    (λ c. search laws)  -- shared-slice-read-result
-    (λ c. search laws)  -- returns
-    (λ c. search laws))  -- returns_2
+    (λ c. search laws)  -- bounds-kept-0
+    (λ c. search laws)  -- overflow_sub-result
+    (λ c. search laws)  -- bounds-kept-kept
+    (λ c. search laws)  -- returns-then-kept-ne0
+    (λ c. search laws))  -- returns-else-kept-ne0

@@ -44,9 +44,9 @@ pub twice_area_spec : {M : Type 1} → statement M
 twice_area_spec =
     tie.close
     (tie.spec
-    (λ c κs. tt)  -- too-many-requires
-    (λ c. search too_many_lem)  -- returns
-    (λ c κs. tt)  -- bad-points-requires
-    (λ c. search bad_point)  -- returns_2
+    (λ c κs. tt)  -- too_many-requires
+    (λ c. search too_many_lem)  -- returns-then-too_many
+    (λ c κs. tt)  -- bad_points-requires
+    (λ c. search bad_point)  -- returns-then-bad_points
     (λ c κs. (search good, search few))  -- area-requires
-    (λ c. search (done, rules)))  -- returns_3
+    (λ c. search (done, rules)))  -- returns

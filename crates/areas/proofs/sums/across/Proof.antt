@@ -10,7 +10,7 @@ pub across_spec : {M : Type 1} → statement M
 across_spec =
     tie.close
     (tie.spec
-    (λ c κs. search laws)  -- edge-requires
-    (λ c. search laws)  -- add-t5
-    (λ c. search laws)  -- sub-t6
+    (λ c κs. search laws)  -- edge-chord-requires
+    (λ c. search laws)  -- overflow_add-result
+    (λ c. search laws)  -- overflow_sub-result
     (λ c. search laws))  -- returns

@@ -10,7 +10,7 @@ pub along_spec : {M : Type 1} → statement M
 along_spec =
     tie.close
     (tie.spec
-    (λ c κs. search laws)  -- edge-requires
-    (λ c. search laws)  -- add-t5
-    (λ c. search laws)  -- add-t6
+    (λ c κs. search laws)  -- edge-step-requires
+    (λ c. search laws)  -- overflow_add-result
+    (λ c. search laws)  -- overflow_add-result-2
     (λ c. (search along_made, search along_small)))  -- returns

@@ -19,11 +19,11 @@ use Rattle.areas.proofs.Ways.{Along, near_at, small_edge, near_prev, begun, pass
 use Rattle.areas.proofs.sums.area.Statement.{statement}
 use Rattle.areas.proofs.sums.area.Tie as tie
 
-abbrev invariant-loop : tie.invariant-loop
-invariant-loop points n first prev₀ sum₀ i₀ prev sum i = (i ≤ 4096) × (n ≡ count points) × (first ≡ point_at points 0) × Along points i prev (to_z w64 sum)
+abbrev invariant-loop-i : tie.invariant-loop-i
+invariant-loop-i points n first prev₀ sum₀ i₀ prev sum i = (i ≤ 4096) × (n ≡ count points) × (first ≡ point_at points 0) × Along points i prev (to_z w64 sum)
 
-abbrev decreases-loop : tie.decreases-loop
-decreases-loop points n first prev₀ sum₀ i₀ prev sum i = n - i
+abbrev decreases-loop-i : tie.decreases-loop-i
+decreases-loop-i points n first prev₀ sum₀ i₀ prev sum i = n - i
 
 -- the sum is handed on by its bits
 module _ (list : List ℤ) (good : bad_points list ≡ false) (i : ℕ) (prev : PointI32) (sum : ℤ) (few : i ≤ 4096) (way : Along list i prev sum) where
@@ -47,14 +47,14 @@ pub area_spec : {M : Type 1} → statement M
 area_spec =
     tie.close
     (tie.spec
-    invariant-loop
-    decreases-loop
-    (λ c κs. search laws)  -- point-at-requires
-    (λ c. search laws)  -- loop-holds
-    (λ c κs. search laws)  -- point-at-requires-2
+    invariant-loop-i
+    decreases-loop-i
+    (λ c κs. search laws)  -- point_at-first-requires
+    (λ c. search laws)  -- loop-i-init
+    (λ c κs. search laws)  -- point_at-p-requires
+    (λ c κs. search laws)  -- plus-sum-requires
+    (λ c. search laws)  -- overflow_add-i
+    (λ c. search laws)  -- loop-i-smaller
+    (λ c. search laws)  -- loop-i-preserved
     (λ c κs. search laws)  -- plus-requires
-    (λ c. search laws)  -- add-i
-    (λ c. search laws)  -- loop-less
-    (λ c. search laws)  -- loop-again
-    (λ c κs. search laws)  -- plus-requires-2
     (λ c. search laws))  -- returns

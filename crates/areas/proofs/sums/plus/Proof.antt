@@ -19,5 +19,5 @@ plus_spec =
     tie.close
     (tie.spec
     (λ c κs. search laws)  -- edge-requires
-    (λ c. search laws)  -- add-result
+    (λ c. search laws)  -- overflow_add-result
     (λ c. search laws))  -- returns

@@ -37,7 +37,7 @@ pub added_spec : {M : Type 1} → statement M
 added_spec =
     tie.close
     (tie.spec
-    (λ c. search laws)  -- add-t3
-    (λ c. search laws)  -- add-t4
-    (λ c. search laws)  -- add-t5
+    (λ c. search laws)  -- overflow_add-result
+    (λ c. search laws)  -- overflow_add-result-2
+    (λ c. search laws)  -- overflow_add-result-3
     (λ c. search laws))  -- returns

@@ -10,7 +10,7 @@ pub leaves_spec : {M : Type 1} → statement M
 leaves_spec =
     tie.close
     (tie.spec
-    (λ c. search laws)  -- sub-result
-    (λ c. search laws)  -- returns
-    (λ c. search laws)  -- sub-result-2
-    (λ c. search laws))  -- returns_2
+    (λ c. search laws)  -- overflow_sub-result
+    (λ c. search laws)  -- returns-then-b-lt0
+    (λ c. search laws)  -- overflow_sub-result-2
+    (λ c. search laws))  -- returns

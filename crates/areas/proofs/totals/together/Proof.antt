@@ -54,10 +54,10 @@ together_spec =
     tie.close
     (tie.spec
     (λ c κs. search rules)  -- leaves-requires
-    (λ c. search whole_leaves)  -- returns
+    (λ c. search whole_leaves)  -- returns-then-leaves
     (λ c κs. search rules)  -- leaves-requires-2
-    (λ c. search kept_leaves)  -- returns_2
+    (λ c. search kept_leaves)  -- returns-then-leaves-2
     (λ c κs. search rules)  -- leaves-requires-3
-    (λ c. search gaps_leave)  -- returns_3
+    (λ c. search gaps_leave)  -- returns-then-leaves-3
     (λ c κs. (search whole_stays, search kept_stays, search gaps_stay))  -- added-requires
-    (λ c. search none_leaves))  -- returns-4
+    (λ c. search none_leaves))  -- returns

@@ -24,6 +24,6 @@ pub ends_spec : {M : Type 1} → statement M
 ends_spec =
     tie.close
     (tie.spec
-    (λ c κs. search laws)  -- same-point-requires
-    (λ c. search laws)  -- returns
-    (λ c. search laws))  -- returns_2
+    (λ c κs. search laws)  -- same_point-requires
+    (λ c. search laws)  -- returns-then-k-m
+    (λ c. search laws))  -- returns-else-k-m

@@ -36,7 +36,7 @@ pub fair_spec : {M : Type 1} → statement M
 fair_spec =
     tie.close
     (tie.spec
-    (λ c κs. search laws)  -- up-to-1000-requires
-    (λ c κs. search laws)  -- up-to-1000-requires-2
-    (λ c. search laws)  -- returns
-    (λ c. search laws))  -- returns_2
+    (λ c κs. search laws)  -- up_to_1000-requires
+    (λ c κs. search laws)  -- up_to_1000-requires-then-up_to_1000
+    (λ c. search laws)  -- returns-then-up_to_1000
+    (λ c. search laws))  -- returns-else-up_to_1000

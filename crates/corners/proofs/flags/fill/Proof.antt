@@ -14,14 +14,14 @@ use Rattle.corners.specs.inside.Places.{same_flags}
 use Rattle.corners.proofs.flags.fill.Statement.{statement}
 use Rattle.corners.proofs.flags.fill.Tie as tie
 
-abbrev invariant-loop : tie.invariant-loop
-invariant-loop closed m i k turned flags₀ j₀ flags j =
+abbrev invariant-loop-j : tie.invariant-loop-j
+invariant-loop-j closed m i k turned flags₀ j₀ flags j =
     (k ≤ length flags)
     × (length flags ≡ length flags₀)
     × (sets flags₀ j₀ (same_flags closed m turned j₀ (k - j₀)) ≡ sets flags j (same_flags closed m turned j (k - j)))
 
-abbrev decreases-loop : tie.decreases-loop
-decreases-loop closed m i k turned flags₀ j₀ flags j = k - j
+abbrev decreases-loop-j : tie.decreases-loop-j
+decreases-loop-j closed m i k turned flags₀ j₀ flags j = k - j
 
 module _ (closed : Bool) (m k : ℕ) (turned : Bool) where
   -- one is stored
@@ -66,18 +66,18 @@ pub fill_spec : {M : Type 1} → statement M
 fill_spec =
     tie.close
     (tie.spec
-    invariant-loop
-    decreases-loop
-    (λ c κs. search laws)  -- is-corner-requires
+    invariant-loop-j
+    decreases-loop-j
+    (λ c κs. search laws)  -- is_corner-requires
     (λ c κs. search laws)  -- flag-requires
-    (λ c. search laws)  -- slice-write-flags
-    (λ c. search laws)  -- add-j
-    (λ c. search laws)  -- loop-holds
-    (λ c. search laws)  -- add-j-2
-    (λ c κs. search laws)  -- is-corner-requires-2
-    (λ c κs. search laws)  -- flag-requires-2
-    (λ c. search laws)  -- slice-write-flags-2
-    (λ c. search laws)  -- loop-less
-    (λ c. search laws)  -- loop-again
-    (λ c. search laws)  -- same-length
+    (λ c. search laws)  -- bounds-flags-i
+    (λ c. search laws)  -- overflow_add-j
+    (λ c. search laws)  -- loop-j-init
+    (λ c. search laws)  -- overflow_add-j-in-loop-j
+    (λ c κs. search laws)  -- is_corner-requires-in-loop-j
+    (λ c κs. search laws)  -- flag-requires-in-loop-j
+    (λ c. search laws)  -- bounds-flags-at
+    (λ c. search laws)  -- loop-j-smaller
+    (λ c. search laws)  -- loop-j-preserved
+    (λ c. search laws)  -- shape_of-flags
     (λ c. search laws))  -- returns

@@ -70,15 +70,15 @@ pub find_corners_spec : {M : Type 1} → statement M
 find_corners_spec =
     tie.close
     (tie.spec
-    (λ c κs. search laws)  -- too-many-requires
-    (λ c. search laws)  -- returns
-    (λ c κs. search laws)  -- bad-points-requires
-    (λ c. search laws)  -- returns_2
-    (λ c. search laws)  -- returns_3
+    (λ c κs. search laws)  -- too_many-requires
+    (λ c. search laws)  -- returns-then-too_many
+    (λ c κs. search laws)  -- bad_points-requires
+    (λ c. search laws)  -- returns-then-bad_points
+    (λ c. search laws)  -- returns-then-n-eq0
     (λ c κs. search laws)  -- fair-requires
-    (λ c. search laws)  -- returns-4
-    (λ c κs. search laws)  -- seen-requires
-    (λ c. search laws)  -- returns_5
+    (λ c. search laws)  -- returns-then-not-fair
+    (λ c κs. search laws)  -- seen-m-requires
+    (λ c. search laws)  -- returns-then-flags-m
     (λ c κs. search laws)  -- write-requires
-    (λ c. search laws)  -- same-length
-    (λ c. search laws))  -- returns-6
+    (λ c. search laws)  -- shape_of-flags
+    (λ c. search laws))  -- returns

@@ -18,5 +18,5 @@ pub flag_spec : {M : Type 1} → statement M
 flag_spec =
     tie.close
     (tie.spec
-    (λ c. search laws)  -- returns
-    (λ c. search laws))  -- returns_2
+    (λ c. search laws)  -- returns-then-corner
+    (λ c. search laws))  -- returns-else-corner

@@ -10,6 +10,6 @@ pub is_corner_spec : {M : Type 1} → statement M
 is_corner_spec =
     tie.close
     (tie.spec
-    (λ c κs. search laws)  -- is-open-end-requires
-    (λ c. search laws)  -- returns
-    (λ c. search laws))  -- returns_2
+    (λ c κs. search laws)  -- is_open_end-requires
+    (λ c. search laws)  -- returns-then-is_open_end
+    (λ c. search laws))  -- returns-else-is_open_end

@@ -22,6 +22,6 @@ pub is_end_spec : {M : Type 1} → statement M
 is_end_spec =
     tie.close
     (tie.spec
-    (λ c. search laws)  -- add-result
-    (λ c. search laws)  -- returns
-    (λ c. search laws))  -- returns_2
+    (λ c. search laws)  -- overflow_add-result
+    (λ c. search laws)  -- returns-then-i-eq0
+    (λ c. search laws))  -- returns-else-i-eq0

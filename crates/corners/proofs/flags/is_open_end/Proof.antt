@@ -15,6 +15,6 @@ pub is_open_end_spec : {M : Type 1} → statement M
 is_open_end_spec =
     tie.close
     (tie.spec
-    (λ c κs. search laws)  -- is-end-requires
-    (λ c. search laws)  -- returns
-    (λ c. search laws))  -- returns_2
+    (λ c κs. search laws)  -- is_end-requires
+    (λ c. search laws)  -- returns-then-not-closed
+    (λ c. search laws))  -- returns-else-not-closed

@@ -28,5 +28,5 @@ pub up_to_1000_spec : {M : Type 1} → statement M
 up_to_1000_spec =
     tie.close
     (tie.spec
-    (λ c. search laws)  -- returns
-    (λ c. search laws))  -- returns_2
+    (λ c. search laws)  -- returns-then-low-v
+    (λ c. search laws))  -- returns-else-low-v

@@ -26,8 +26,8 @@ use Rattle.corners.proofs.Steps.{all_turned, next_run, longer_run, not_all}
 use Rattle.corners.proofs.flags.write.Statement.{statement}
 use Rattle.corners.proofs.flags.write.Tie as tie
 
-abbrev invariant-loop : tie.invariant-loop
-invariant-loop points pair closed m flags₀ p₀ from₀ i₀ k₀ flags p from i k =
+abbrev invariant-loop-k : tie.invariant-loop-k
+invariant-loop-k points pair closed m flags₀ p₀ from₀ i₀ k₀ flags p from i k =
     (k ≤ m)
     × (i ≤ k)
     × (m ≤ k → m ≤ i)
@@ -35,8 +35,8 @@ invariant-loop points pair closed m flags₀ p₀ from₀ i₀ k₀ flags p from
     × (flags ≡ over (take i (corners_of points pair closed)) flags₀)
     × Run points closed m i k from p
 
-abbrev decreases-loop : tie.decreases-loop
-decreases-loop points pair closed m flags₀ p₀ from₀ i₀ k₀ flags p from i k = m - k
+abbrev decreases-loop-k : tie.decreases-loop-k
+decreases-loop-k points pair closed m flags₀ p₀ from₀ i₀ k₀ flags p from i k = m - k
 
 -- ---- before the first turn
 
@@ -127,19 +127,19 @@ pub write_spec : {M : Type 1} → statement M
 write_spec =
     tie.close
     (tie.spec
-    invariant-loop
-    decreases-loop
-    (λ c κs. search laws)  -- point-at-requires
-    (λ c κs. search laws)  -- before-first-requires
-    (λ c. search laws)  -- loop-holds
-    (λ c. search laws)  -- add-k
-    (λ c κs. search laws)  -- behind-run-requires
+    invariant-loop-k
+    decreases-loop-k
+    (λ c κs. search laws)  -- point_at-p-requires
+    (λ c κs. search laws)  -- before_first-from-requires
+    (λ c. search laws)  -- loop-k-init
+    (λ c. search laws)  -- overflow_add-k
+    (λ c κs. search laws)  -- behind_run-to-requires
     (λ c κs. search laws)  -- ends-requires
     (λ c κs. search laws)  -- turns-requires
     (λ c κs. search laws)  -- fill-requires
-    (λ c. search laws)  -- loop-less
-    (λ c. (search laws, search laws, search laws, search laws, search laws, search laws))  -- loop-again
-    (λ c. search laws)  -- loop-less-2
-    (λ c. (search laws, search laws, search laws, search laws, search laws, search laws))  -- loop_again_2
-    (λ c. search laws)  -- same-length
+    (λ c. search laws)  -- loop-k-smaller-then-ends
+    (λ c. (search laws, search laws, search laws, search laws, search laws, search laws))  -- loop-k-preserved-then-ends
+    (λ c. search laws)  -- loop-k-smaller
+    (λ c. (search laws, search laws, search laws, search laws, search laws, search laws))  -- loop-k-preserved
+    (λ c. search laws)  -- shape_of-flags
     (λ c. search laws))  -- returns

@@ -22,11 +22,11 @@ use Rattle.corners.proofs.nearest.before_first.Tie as tie
 abbrev down : List ℤ → PointI32 → ℕ → PointI32
 down list p k = first_other p (reverse (slice 1 k (points list)))
 
-abbrev invariant-loop : tie.invariant-loop
-invariant-loop points closed m p k₀ k = (closed ≡ true) × (k ≤ m) × (down points p m ≡ down points p k)
+abbrev invariant-loop-k : tie.invariant-loop-k
+invariant-loop-k points closed m p k₀ k = (closed ≡ true) × (k ≤ m) × (down points p m ≡ down points p k)
 
-abbrev decreases-loop : tie.decreases-loop
-decreases-loop points closed m p k₀ k = k
+abbrev decreases-loop-k : tie.decreases-loop-k
+decreases-loop-k points closed m p k₀ k = k
 
 open_list : (list : List ℤ) (closed : Bool) (m : ℕ) (p : PointI32) → not closed ≡ true → p ≡ nearest closed p (back list 0) (ahead list m 0)
 unfolding nearest first_other
@@ -69,14 +69,14 @@ pub before_first_spec : {M : Type 1} → statement M
 before_first_spec =
     tie.close
     (tie.spec
-    invariant-loop
-    decreases-loop
-    (λ c. search laws)  -- returns
-    (λ c. search laws)  -- loop-holds
-    (λ c. search laws)  -- sub-k
-    (λ c κs. search laws)  -- point-at-requires
-    (λ c κs. search laws)  -- same-point-requires
-    (λ c. search laws)  -- returns_2
-    (λ c. search laws)  -- loop-less
-    (λ c. search laws)  -- loop-again
-    (λ c. search laws))  -- returns_3
+    invariant-loop-k
+    decreases-loop-k
+    (λ c. search laws)  -- returns-then-not-closed
+    (λ c. search laws)  -- loop-k-init
+    (λ c. search laws)  -- overflow_sub-k
+    (λ c κs. search laws)  -- point_at-q-requires
+    (λ c κs. search laws)  -- same_point-requires
+    (λ c. search laws)  -- returns-then-not-same_point
+    (λ c. search laws)  -- loop-k-smaller
+    (λ c. search laws)  -- loop-k-preserved
+    (λ c. search laws))  -- returns

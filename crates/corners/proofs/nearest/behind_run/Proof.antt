@@ -65,9 +65,9 @@ pub behind_run_spec : {M : Type 1} → statement M
 behind_run_spec =
     tie.close
     (tie.spec
-    (λ c κs. search laws)  -- point-at-requires
-    (λ c. search laws)  -- returns
-    (λ c. search laws)  -- returns_2
-    (λ c κs. search laws)  -- first-other-requires
-    (λ c κs. search laws)  -- point-at-requires-2
-    (λ c. search laws))  -- returns_3
+    (λ c κs. search laws)  -- point_at-requires
+    (λ c. search laws)  -- returns-then-k-m
+    (λ c. search laws)  -- returns-then-not-closed
+    (λ c κs. search laws)  -- first_other-requires
+    (λ c κs. search laws)  -- point_at-requires-2
+    (λ c. search laws))  -- returns

@@ -18,11 +18,11 @@ use Rattle.corners.proofs.nearest.first_other.Tie as tie
 abbrev Alike : List ℤ → PointI32 → ℕ → Type 0
 Alike list p k = (j : ℕ) → 0 ≤ j → j < k → point_at list j ≡ p
 
-abbrev invariant-loop : tie.invariant-loop
-invariant-loop points p end k₀ k = (k ≤ end) × Alike points p k
+abbrev invariant-loop-k : tie.invariant-loop-k
+invariant-loop-k points p end k₀ k = (k ≤ end) × Alike points p k
 
-abbrev decreases-loop : tie.decreases-loop
-decreases-loop points p end k₀ k = end - k
+abbrev decreases-loop-k : tie.decreases-loop-k
+decreases-loop-k points p end k₀ k = end - k
 
 module _ (list : List ℤ) (p : PointI32) (end : ℕ) where
   begun : Alike list p 0
@@ -50,13 +50,13 @@ pub first_other_spec : {M : Type 1} → statement M
 first_other_spec =
     tie.close
     (tie.spec
-    invariant-loop
-    decreases-loop
-    (λ c. search laws)  -- loop-holds
-    (λ c κs. search laws)  -- point-at-requires
-    (λ c κs. search laws)  -- same-point-requires
-    (λ c. search laws)  -- returns
-    (λ c. search laws)  -- add-k
-    (λ c. search laws)  -- loop-less
-    (λ c. search laws)  -- loop-again
-    (λ c. search laws))  -- returns_2
+    invariant-loop-k
+    decreases-loop-k
+    (λ c. search laws)  -- loop-k-init
+    (λ c κs. search laws)  -- point_at-requires
+    (λ c κs. search laws)  -- same_point-requires
+    (λ c. search laws)  -- returns-then-not-same_point
+    (λ c. search laws)  -- overflow_add-k
+    (λ c. search laws)  -- loop-k-smaller
+    (λ c. search laws)  -- loop-k-preserved
+    (λ c. search laws))  -- returns

@@ -15,5 +15,5 @@ pub reaches_spec : {M : Type 1} → statement M
 reaches_spec =
     tie.close
     (tie.spec
-    (λ c. simp (to_z-of_z, c.ranges.a, c.ranges.b) (fits c))  -- sub-result
+    (λ c. simp (to_z-of_z, c.ranges.a, c.ranges.b) (fits c))  -- overflow_sub-result
     (λ c. simp (to_z-of_z, c.ranges.a, c.ranges.b, fits c) refl))  -- returns

@@ -19,6 +19,6 @@ pub scaled_spec : {M : Type 1} → statement M
 scaled_spec =
     tie.close
     (tie.spec
-    (λ c. simp (to_z-of_z, c.ranges.k) (k c))  -- cast-result
-    (λ c. simp (to_z-of_z, c.ranges.k, c.ranges.v, k c) (product c))  -- mul-result
+    (λ c. simp (to_z-of_z, c.ranges.k) (k c))  -- overflow_cast-result
+    (λ c. simp (to_z-of_z, c.ranges.k, c.ranges.v, k c) (product c))  -- overflow_mul-result
     (λ c. simp (to_z-of_z, c.ranges.k, c.ranges.v, k c, product c) (refl, abs_mul_le c.args.k c.args.v c.requires.0 c.requires.1)))  -- returns

@@ -60,8 +60,8 @@ pub sharp_spec : {M : Type 1} → statement M
 sharp_spec =
     tie.close
     (tie.spec
-    (λ c κs. search laws)  -- cross-size-requires
-    (λ c κs. search laws)  -- dot-requires
+    (λ c κs. search laws)  -- cross_size-cross-requires
+    (λ c κs. search laws)  -- dot-dot-requires
     (λ c κs. search laws)  -- scaled-requires
     (λ c κs. search laws)  -- scaled-requires-2
     (λ c κs. search laws)  -- reaches-requires

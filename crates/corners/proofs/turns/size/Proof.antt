@@ -49,6 +49,6 @@ pub size_spec : {M : Type 1} → statement M
 size_spec =
     tie.close
     (tie.spec
-    (λ c. search laws)  -- sub-result
-    (λ c. search laws)  -- returns
-    (λ c. search laws))  -- returns_2
+    (λ c. search laws)  -- overflow_sub-result
+    (λ c. search laws)  -- returns-then-v-lt0
+    (λ c. search laws))  -- returns-else-v-lt0

@@ -1,6 +1,5 @@
 -- `turns` meets its contract: both vectors are short. Assumes nothing.
 use mathlib.Core.Bool.{Bool, true, false}
-use mathlib.Core.Logic.{⊎_elim}
 use mathlib.Core.Path.{◌≡◌, sym, ap₂, ◌∙◌}
 use borrow.Author.Rules.{rules}
 use Rattle.point.specs.declared.PointI32.{PointI32}
@@ -10,6 +9,7 @@ use Rattle.corners.specs.Corners.{vector, sharp, turns}
 use Rattle.corners.proofs.Judged.{alike_before, alike_behind, both_differ}
 use Rattle.corners.proofs.turns.turns.Statement.{statement}
 use Rattle.corners.proofs.turns.turns.Tie as tie
+use Rattle.corners.proofs.turns.turns.Lts.{then-same_point-via-then-same_point, then-same_point-via-else-same_point+then-same_point-2}
 
 module _ (pair : Pair) (from p to : PointI32) (s : Bool) (es : s ≡ same_point p from) where
   none_before : s ≡ true → false ≡ turns pair from p to
@@ -28,10 +28,10 @@ pub turns_spec : {M : Type 1} → statement M
 turns_spec =
     tie.close
     (tie.spec
-    (λ c κs. search laws)  -- same-point-requires
-    (λ c κs. search laws)  -- same-point-requires-2
-    (λ c. ⊎_elim (λ w. search laws) (λ w. search laws) c.if1.branch)  -- returns
+    (λ c κs. search laws)  -- same_point-requires
+    (λ c κs. search laws)  -- same_point-requires-else-same_point
+    (λ c. elim c.then-same_point.branch [ then-same_point-via-then-same_point w ↦ search laws | then-same_point-via-else-same_point+then-same_point-2 w ↦ search laws ])  -- returns-then-same_point
     (λ c κs. search laws)  -- vector-requires
     (λ c κs. search laws)  -- vector-requires-2
     (λ c κs. search laws)  -- sharp-requires
-    (λ c. search laws))  -- returns_2
+    (λ c. search laws))  -- returns

@@ -28,6 +28,6 @@ pub vector_spec : {M : Type 1} → statement M
 vector_spec =
     tie.close
     (tie.spec
-    (λ c κs. search laws)  -- difference-requires
-    (λ c κs. search laws)  -- difference-requires-2
+    (λ c κs. search laws)  -- difference-x-requires
+    (λ c κs. search laws)  -- difference-y-requires
     (λ c. search laws))  -- returns

@@ -10,13 +10,13 @@ pub put_numbered_spec : {M : Type 1} → statement M
 put_numbered_spec =
     tie.close
     (tie.spec
-    (λ c. search laws)  -- slice-aggregate-numbers
-    (λ c κs. search laws)  -- numbers-requires
+    (λ c. search laws)  -- slice_bounds-numbers-end
+    (λ c κs. search laws)  -- numbers-answer-requires
     (λ c κs. search laws)  -- number-requires
     (λ c κs. search laws)  -- count-requires
-    (λ c. search laws)  -- sub-put-numbers
-    (λ c. search laws)  -- part-put-numbers-start
-    (λ c. search laws)  -- part-put-numbers-end
-    (λ c κs. search laws)  -- put-numbers-requires
-    (λ c. search laws)  -- same-length
+    (λ c. search laws)  -- slice_bounds-put_numbers-count
+    (λ c. search laws)  -- slice_bounds-put_numbers-start
+    (λ c. search laws)  -- slice_bounds-put_numbers-end
+    (λ c κs. search laws)  -- put_numbers-requires
+    (λ c. search laws)  -- shape_of-out
     (λ c. search laws))  -- returns

@@ -10,13 +10,13 @@ pub put_reduced_spec : {M : Type 1} → statement M
 put_reduced_spec =
     tie.close
     (tie.spec
-    (λ c. search laws)  -- slice-aggregate-reduce
-    (λ c. search laws)  -- slice-aggregate-reduce-2
-    (λ c. search laws)  -- slice-aggregate-reduce-3
-    (λ c κs. search laws)  -- reduce-requires
+    (λ c. search laws)  -- slice_bounds-reduce-end
+    (λ c. search laws)  -- slice_bounds-reduce-end-2
+    (λ c. search laws)  -- slice_bounds-reduce-end-3
+    (λ c κs. search laws)  -- reduce-answer-requires
     (λ c κs. search laws)  -- number-requires
     (λ c κs. search laws)  -- count-requires
-    (λ c. search laws)  -- slice-aggregate-put-counted
-    (λ c κs. search laws)  -- put-counted-requires
-    (λ c. search laws)  -- same-length
+    (λ c. search laws)  -- slice_bounds-put_counted-end
+    (λ c κs. search laws)  -- put_counted-requires
+    (λ c. search laws)  -- shape_of-out
     (λ c. search laws))  -- returns

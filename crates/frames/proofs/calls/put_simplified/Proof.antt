@@ -10,11 +10,11 @@ pub put_simplified_spec : {M : Type 1} → statement M
 put_simplified_spec =
     tie.close
     (tie.spec
-    (λ c. search laws)  -- slice-aggregate-simplify
-    (λ c κs. search laws)  -- simplify-requires
+    (λ c. search laws)  -- slice_bounds-simplify-end
+    (λ c κs. search laws)  -- simplify-answer-requires
     (λ c κs. search laws)  -- number-requires
     (λ c κs. search laws)  -- count-requires
-    (λ c. search laws)  -- slice-aggregate-put-counted
-    (λ c κs. search laws)  -- put-counted-requires
-    (λ c. search laws)  -- same-length
+    (λ c. search laws)  -- slice_bounds-put_counted-end
+    (λ c κs. search laws)  -- put_counted-requires
+    (λ c. search laws)  -- shape_of-out
     (λ c. search laws))  -- returns

@@ -10,11 +10,11 @@ pub put_walk_spec : {M : Type 1} → statement M
 put_walk_spec =
     tie.close
     (tie.spec
-    (λ c. search laws)  -- slice-aggregate-walk
-    (λ c κs. search laws)  -- walk-requires
+    (λ c. search laws)  -- slice_bounds-walk-end
+    (λ c κs. search laws)  -- walk-walked-requires
     (λ c κs. search laws)  -- number-requires
     (λ c κs. search laws)  -- count-requires
-    (λ c. search laws)  -- slice-aggregate-put-counted
-    (λ c κs. search laws)  -- put-counted-requires
-    (λ c. search laws)  -- same-length
+    (λ c. search laws)  -- slice_bounds-put_counted-end
+    (λ c κs. search laws)  -- put_counted-requires
+    (λ c. search laws)  -- shape_of-out
     (λ c. search laws))  -- returns

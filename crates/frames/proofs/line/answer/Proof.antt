@@ -10,16 +10,16 @@ pub answer_spec : {M : Type 1} → statement M
 answer_spec =
     tie.close
     (tie.spec
-    (λ c. search laws)  -- slice-aggregate-read-bytes
-    (λ c κs. search laws)  -- read-bytes-requires
-    (λ c. search laws)  -- enum-known-n
-    (λ c. search laws)  -- sub-reply
-    (λ c. search laws)  -- part-reply-start
-    (λ c. search laws)  -- part-reply-end
+    (λ c. search laws)  -- slice_bounds-read_bytes-end
+    (λ c κs. search laws)  -- read_bytes-requires
+    (λ c. search laws)  -- enum_known-n
+    (λ c. search laws)  -- slice_bounds-reply-count
+    (λ c. search laws)  -- slice_bounds-reply-start
+    (λ c. search laws)  -- slice_bounds-reply-end
     (λ c κs. search laws)  -- reply-requires
-    (λ c. search laws)  -- enum-told
+    (λ c. search laws)  -- enum_told-1
     (λ c κs. search laws)  -- bad-requires
-    (λ c. search laws)  -- same-length
-    (λ c. search laws)  -- returns
-    (λ c. search laws)  -- same-length-2
-    (λ c. search laws))  -- returns_2
+    (λ c. search laws)  -- shape_of-out-in-Is
+    (λ c. search laws)  -- returns-in-Is
+    (λ c. search laws)  -- shape_of-out-in-Not
+    (λ c. search laws))  -- returns-in-Not

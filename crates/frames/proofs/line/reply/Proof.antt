@@ -10,38 +10,38 @@ pub reply_spec : {M : Type 1} → statement M
 reply_spec =
     tie.close
     (tie.spec
-    (λ c. search laws)  -- slice-aggregate-request
+    (λ c. search laws)  -- slice_bounds-request-end
     (λ c κs. search laws)  -- request-requires
-    (λ c. search laws)  -- enum-known-clockwise
-    (λ c. search laws)  -- sub-put-walk
-    (λ c. search laws)  -- part-put-walk-start
-    (λ c. search laws)  -- part-put-walk-end
-    (λ c κs. search laws)  -- put-walk-requires
-    (λ c. search laws)  -- enum-known-clockwise-2
-    (λ c. search laws)  -- sub-put-simplified
-    (λ c. search laws)  -- part-put-simplified-start
-    (λ c. search laws)  -- part-put-simplified-end
-    (λ c κs. search laws)  -- put-simplified-requires
-    (λ c. search laws)  -- enum-known-tolerance
-    (λ c. search laws)  -- sub-put-reduced
-    (λ c. search laws)  -- part-put-reduced-start
-    (λ c. search laws)  -- part-put-reduced-end
-    (λ c. search laws)  -- int-to-float-put-reduced
-    (λ c κs. search laws)  -- put-reduced-requires
-    (λ c. search laws)  -- enum-known-n
-    (λ c. search laws)  -- sub-put-numbered
-    (λ c. search laws)  -- part-put-numbered-start
-    (λ c. search laws)  -- part-put-numbered-end
-    (λ c κs. search laws)  -- put-numbered-requires
-    (λ c. search laws)  -- enum-told
+    (λ c. search laws)  -- enum_known-clockwise
+    (λ c. search laws)  -- slice_bounds-put_walk-count
+    (λ c. search laws)  -- slice_bounds-put_walk-start
+    (λ c. search laws)  -- slice_bounds-put_walk-end
+    (λ c κs. search laws)  -- put_walk-requires
+    (λ c. search laws)  -- enum_known-clockwise-in-Simplify-1
+    (λ c. search laws)  -- slice_bounds-put_simplified-count
+    (λ c. search laws)  -- slice_bounds-put_simplified-start
+    (λ c. search laws)  -- slice_bounds-put_simplified-end
+    (λ c κs. search laws)  -- put_simplified-requires
+    (λ c. search laws)  -- enum_known-tolerance
+    (λ c. search laws)  -- slice_bounds-put_reduced-count
+    (λ c. search laws)  -- slice_bounds-put_reduced-start
+    (λ c. search laws)  -- slice_bounds-put_reduced-end
+    (λ c. search laws)  -- int_to_float-tolerance
+    (λ c κs. search laws)  -- put_reduced-requires
+    (λ c. search laws)  -- enum_known-n
+    (λ c. search laws)  -- slice_bounds-put_numbered-count
+    (λ c. search laws)  -- slice_bounds-put_numbered-start
+    (λ c. search laws)  -- slice_bounds-put_numbered-end
+    (λ c κs. search laws)  -- put_numbered-requires
+    (λ c. search laws)  -- enum_told-1
     (λ c κs. search laws)  -- bad-requires
-    (λ c. search laws)  -- same-length
-    (λ c. search laws)  -- returns
-    (λ c. search laws)  -- same-length-2
-    (λ c. search laws)  -- returns_2
-    (λ c. search laws)  -- same-length-3
-    (λ c. search laws)  -- returns_3
-    (λ c. search laws)  -- same-length-4
-    (λ c. search laws)  -- returns-4
-    (λ c. search laws)  -- same-length-5
-    (λ c. search laws))  -- returns_5
+    (λ c. search laws)  -- shape_of-out-in-Walk
+    (λ c. search laws)  -- returns-in-Walk
+    (λ c. search laws)  -- shape_of-out-in-Simplify
+    (λ c. search laws)  -- returns-in-Simplify
+    (λ c. search laws)  -- shape_of-out-in-Reduce
+    (λ c. search laws)  -- returns-in-Reduce
+    (λ c. search laws)  -- shape_of-out-in-Numbers
+    (λ c. search laws)  -- returns-in-Numbers
+    (λ c. search laws)  -- shape_of-out-in-NoFrame
+    (λ c. search laws))  -- returns-in-NoFrame

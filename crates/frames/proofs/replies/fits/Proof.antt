@@ -31,7 +31,7 @@ pub fits_spec : {M : Type 1} → statement M
 fits_spec =
     tie.close
     (tie.spec
-    (λ c. search laws)  -- returns
-    (λ c. search laws)  -- returns_2
-    (λ c. search laws)  -- div-result
-    (λ c. search laws))  -- returns_3
+    (λ c. search laws)  -- returns-then-len-at
+    (λ c. search laws)  -- returns-then-room-lt-HEAD
+    (λ c. search laws)  -- nonzero_div-result
+    (λ c. search laws))  -- returns

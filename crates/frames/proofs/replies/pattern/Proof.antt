@@ -66,9 +66,9 @@ pub pattern_spec : {M : Type 1} → statement M
 pattern_spec =
     tie.close
     (tie.spec
-    (λ c. search laws)  -- sub-result
-    (λ c. search laws)  -- cast-result
-    (λ c. search laws)  -- sub-result-2
-    (λ c. search laws)  -- returns
-    (λ c. search laws)  -- cast-result-2
-    (λ c. search laws))  -- returns_2
+    (λ c. search laws)  -- overflow_sub-result
+    (λ c. search laws)  -- overflow_cast-result
+    (λ c. search laws)  -- overflow_sub-result-then-v-lt0
+    (λ c. search laws)  -- returns-then-v-lt0
+    (λ c. search laws)  -- overflow_cast-result-2
+    (λ c. search laws))  -- returns

@@ -21,10 +21,10 @@ pub put_counted_spec : {M : Type 1} → statement M
 put_counted_spec =
     tie.close
     (tie.spec
-    (λ c. search laws)  -- mul-put-points
-    (λ c. search laws)  -- sub-put-points
-    (λ c. search laws)  -- part-put-points-start
-    (λ c. search laws)  -- part-put-points-end
-    (λ c κs. search laws)  -- put-points-requires
-    (λ c. search laws)  -- same-length
+    (λ c. search laws)  -- overflow_mul-count
+    (λ c. search laws)  -- slice_bounds-put_points-count
+    (λ c. search laws)  -- slice_bounds-put_points-start
+    (λ c. search laws)  -- slice_bounds-put_points-end
+    (λ c κs. search laws)  -- put_points-requires
+    (λ c. search laws)  -- shape_of-out
     (λ c. search laws))  -- returns

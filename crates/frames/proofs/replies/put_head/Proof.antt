@@ -30,9 +30,9 @@ pub put_head_spec : {M : Type 1} → statement M
 put_head_spec =
     tie.close
     (tie.spec
-    (λ c. search laws)  -- add-put-hex
-    (λ c κs. search laws)  -- put-hex-requires
-    (λ c κs. search laws)  -- put-hex-requires-2
-    (λ c κs. search laws)  -- put-hex-requires-3
-    (λ c. search laws)  -- same-length
+    (λ c. search laws)  -- overflow_add-kind
+    (λ c κs. search laws)  -- put_hex-behind_kind-requires
+    (λ c κs. search laws)  -- put_hex-behind_number-requires
+    (λ c κs. search laws)  -- put_hex-requires
+    (λ c. search laws)  -- shape_of-out
     (λ c. search laws))  -- returns

@@ -16,12 +16,12 @@ use Rattle.frames.proofs.Sizes.{length_numbers}
 use Rattle.frames.proofs.replies.put_numbers.Statement.{statement}
 use Rattle.frames.proofs.replies.put_numbers.Tie as tie
 
-abbrev invariant-loop : tie.invariant-loop
-invariant-loop kind number values out₀ at end₀ i₀ out end i =
+abbrev invariant-loop-i : tie.invariant-loop-i
+invariant-loop-i kind number values out₀ at end₀ i₀ out end i =
     (i ≤ length values) × (length out ≡ length out₀) × Left (doubles values) out₀ end₀ (doubles (drop i values)) out end
 
-abbrev decreases-loop : tie.decreases-loop
-decreases-loop kind number values out₀ at end₀ i₀ out end i = length values - i
+abbrev decreases-loop-i : tie.decreases-loop-i
+decreases-loop-i kind number values out₀ at end₀ i₀ out end i = length values - i
 
 -- the values behind the head, where both fit
 module _ (kind number at m : ℕ) (values : List Float) (out mid : List ℕ) (fits : Bool) (says : fits ≡ leb (at + (8 + length values * 16)) (length out))
@@ -52,18 +52,18 @@ pub put_numbers_spec : {M : Type 1} → statement M
 put_numbers_spec =
     tie.close
     (tie.spec
-    invariant-loop
-    decreases-loop
+    invariant-loop-i
+    decreases-loop-i
     (λ c κs. search rules)  -- fits-requires
-    (λ c. search (none_fits, length_numbers))  -- returns
-    (λ c κs. search head_fits)  -- put-head-requires
-    (λ c. (search rules, search rules, search holds))  -- loop-holds
-    (λ c. search rules)  -- mul-to-bits
-    (λ c. search rules)  -- shared-slice-read-to-bits
-    (λ c κs. search rules)  -- to-bits-requires
-    (λ c κs. search rules)  -- put-hex-requires
-    (λ c. search rules)  -- add-i
-    (λ c. search rules)  -- loop-less
-    (λ c. (search rules, search rules, search again))  -- loop-again
-    (λ c. search rules)  -- same-length
-    (λ c. search ends))  -- returns_2
+    (λ c. search (none_fits, length_numbers))  -- returns-then-not-fits
+    (λ c κs. search head_fits)  -- put_head-end-requires
+    (λ c. (search rules, search rules, search holds))  -- loop-i-init
+    (λ c. search rules)  -- offset_bounds-values-i
+    (λ c. search rules)  -- bounds-values-i
+    (λ c κs. search rules)  -- to_bits-requires
+    (λ c κs. search rules)  -- put_hex-end-requires
+    (λ c. search rules)  -- overflow_add-i
+    (λ c. search rules)  -- loop-i-smaller
+    (λ c. (search rules, search rules, search again))  -- loop-i-preserved
+    (λ c. search rules)  -- shape_of-out
+    (λ c. search ends))  -- returns

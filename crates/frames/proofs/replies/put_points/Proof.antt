@@ -20,12 +20,12 @@ use Rattle.frames.proofs.Sizes.{length_points}
 use Rattle.frames.proofs.replies.put_points.Statement.{statement}
 use Rattle.frames.proofs.replies.put_points.Tie as tie
 
-abbrev invariant-loop : tie.invariant-loop
-invariant-loop kind number values out₀ at end₀ i₀ out end i =
+abbrev invariant-loop-i : tie.invariant-loop-i
+invariant-loop-i kind number values out₀ at end₀ i₀ out end i =
     (i ≤ length values) × (length out ≡ length out₀) × Left (coordinates values) out₀ end₀ (coordinates (drop i values)) out end
 
-abbrev decreases-loop : tie.decreases-loop
-decreases-loop kind number values out₀ at end₀ i₀ out end i = length values - i
+abbrev decreases-loop-i : tie.decreases-loop-i
+decreases-loop-i kind number values out₀ at end₀ i₀ out end i = length values - i
 
 -- the values behind the head, where both fit
 module _ (kind number at m : ℕ) (values : List ℤ) (out mid : List ℕ) (fits : Bool) (says : fits ≡ leb (at + (8 + length values * 4)) (length out))
@@ -57,18 +57,18 @@ pub put_points_spec : {M : Type 1} → statement M
 put_points_spec =
     tie.close
     (tie.spec
-    invariant-loop
-    decreases-loop
+    invariant-loop-i
+    decreases-loop-i
     (λ c κs. search rules)  -- fits-requires
-    (λ c. search (none_fits, length_points))  -- returns
-    (λ c κs. search head_fits)  -- put-head-requires
-    (λ c. (search rules, search rules, search holds))  -- loop-holds
-    (λ c. search rules)  -- mul-pattern
-    (λ c. search rules)  -- shared-slice-copy-out-pattern
+    (λ c. search (none_fits, length_points))  -- returns-then-not-fits
+    (λ c κs. search head_fits)  -- put_head-end-requires
+    (λ c. (search rules, search rules, search holds))  -- loop-i-init
+    (λ c. search rules)  -- offset_bounds-values-i
+    (λ c. search rules)  -- bounds-values-i
     (λ c κs. search rules)  -- pattern-requires
-    (λ c κs. search rules)  -- put-hex-requires
-    (λ c. search rules)  -- add-i
-    (λ c. search rules)  -- loop-less
-    (λ c. (search rules, search rules, search again))  -- loop-again
-    (λ c. search rules)  -- same-length
-    (λ c. search ends))  -- returns_2
+    (λ c κs. search rules)  -- put_hex-end-requires
+    (λ c. search rules)  -- overflow_add-i
+    (λ c. search rules)  -- loop-i-smaller
+    (λ c. (search rules, search rules, search again))  -- loop-i-preserved
+    (λ c. search rules)  -- shape_of-out
+    (λ c. search ends))  -- returns

@@ -26,8 +26,8 @@ pub fed_spec : {M : Type 1} → statement M
 fed_spec =
     tie.close
     (tie.spec
-    (λ c. search laws)  -- sub-least
+    (λ c. search laws)  -- overflow_sub-r
     (λ c κs. search laws)  -- least-requires
-    (λ c. search laws)  -- add-t10
-    (λ c. search laws)  -- returns
-    (λ c. search laws))  -- returns_2
+    (λ c. search laws)  -- overflow_add-result
+    (λ c. search laws)  -- returns-then-got-eq0
+    (λ c. search laws))  -- returns-else-got-eq0

@@ -28,7 +28,7 @@ last_spec =
     tie.close
     (tie.spec
     (λ c κs. search laws)  -- line-requires
-    (λ c. search laws)  -- returns
-    (λ c κs. search laws)  -- line-requires-2
-    (λ c. search laws)  -- returns_2
-    (λ c. search laws))  -- returns_3
+    (λ c. search laws)  -- returns-then-r
+    (λ c κs. search laws)  -- line-requires-then-r-2
+    (λ c. search laws)  -- returns-then-r-2
+    (λ c. search laws))  -- returns

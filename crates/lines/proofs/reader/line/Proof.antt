@@ -22,5 +22,5 @@ pub line_spec : {M : Type 1} → statement M
 line_spec =
     tie.close
     (tie.spec
-    (λ c. search laws)  -- returns
-    (λ c. search laws))  -- returns_2
+    (λ c. search laws)  -- returns-then-r
+    (λ c. search laws))  -- returns

@@ -42,18 +42,18 @@ pub take_spec : {M : Type 1} → statement M
 take_spec =
     tie.close
     (tie.spec
-    (λ c κs. search laws)  -- within-requires
-    (λ c. search laws)  -- sub-find
-    (λ c. search laws)  -- part-find-start
-    (λ c. search laws)  -- part-find-end
-    (λ c κs. search laws)  -- find-requires
-    (λ c. search laws)  -- add-line
+    (λ c κs. search laws)  -- within-held-requires
+    (λ c. search laws)  -- slice_bounds-find-count
+    (λ c. search laws)  -- slice_bounds-find-start
+    (λ c. search laws)  -- slice_bounds-find-end
+    (λ c κs. search laws)  -- find-at-requires
+    (λ c. search laws)  -- overflow_add-at
     (λ c κs. search laws)  -- line-requires
-    (λ c. search laws)  -- same-length
-    (λ c. search laws)  -- returns
+    (λ c. search laws)  -- shape_of-buffer-then-at-end
+    (λ c. search laws)  -- returns-then-at-end
     (λ c κs. search laws)  -- last-requires
-    (λ c. search laws)  -- same-length-2
-    (λ c. search laws)  -- returns_2
-    (λ c κs. search laws)  -- make-room-requires
-    (λ c. search laws)  -- same-length-3
-    (λ c. search laws))  -- returns_3
+    (λ c. search laws)  -- shape_of-buffer-then-held
+    (λ c. search laws)  -- returns-then-held
+    (λ c κs. search laws)  -- make_room-requires
+    (λ c. search laws)  -- shape_of-buffer
+    (λ c. search laws))  -- returns

@@ -18,8 +18,8 @@ pub within_spec : {M : Type 1} → statement M
 within_spec =
     tie.close
     (tie.spec
-    (λ c κs. search laws)  -- least-requires
-    (λ c κs. search laws)  -- least-requires-2
-    (λ c κs. search laws)  -- least-requires-3
+    (λ c κs. search laws)  -- least-end-requires
+    (λ c κs. search laws)  -- least-start-requires
+    (λ c κs. search laws)  -- least-seen-requires
     (λ c κs. search laws)  -- greatest-requires
     (λ c. search laws))  -- returns

@@ -33,12 +33,12 @@ pub make_room_spec : {M : Type 1} → statement M
 make_room_spec =
     tie.close
     (tie.spec
-    (λ c. search laws)  -- sub-n
-    (λ c κs. search laws)  -- read-from-requires
-    (λ c. search laws)  -- returns
-    (λ c κs. search laws)  -- read-from-requires-2
-    (λ c. search laws)  -- returns_2
-    (λ c κs. search laws)  -- to-front-requires
-    (λ c κs. search laws)  -- read-from-requires-3
-    (λ c. search laws)  -- same-length
-    (λ c. search laws))  -- returns_3
+    (λ c. search laws)  -- overflow_sub-n
+    (λ c κs. search laws)  -- read_from-requires
+    (λ c. search laws)  -- returns-then-r
+    (λ c κs. search laws)  -- read_from-requires-then-n-buffer
+    (λ c. search laws)  -- returns-then-n-buffer
+    (λ c κs. search laws)  -- to_front-requires
+    (λ c κs. search laws)  -- read_from-requires-2
+    (λ c. search laws)  -- shape_of-buffer
+    (λ c. search laws))  -- returns

@@ -12,12 +12,12 @@ use borrow.Author.Rules.{rules}
 use Rattle.lines.proofs.refill.to_front.Statement.{statement}
 use Rattle.lines.proofs.refill.to_front.Tie as tie
 
-abbrev invariant-loop : tie.invariant-loop
-invariant-loop buffer₀ from n i₀ buffer i =
+abbrev invariant-loop-i : tie.invariant-loop-i
+invariant-loop-i buffer₀ from n i₀ buffer i =
     (i ≤ n) × (length buffer ≡ length buffer₀) × (buffer ≡ take i (drop from buffer₀) ++ drop i buffer₀)
 
-abbrev decreases-loop : tie.decreases-loop
-decreases-loop buffer₀ from n i₀ buffer i = n - i
+abbrev decreases-loop-i : tie.decreases-loop-i
+decreases-loop-i buffer₀ from n i₀ buffer i = n - i
 
 -- behind a front of `i` bytes stands what stood there
 behind : (p b : List ℕ) (i j : ℕ) → length p ≡ i → get_or (p ++ drop i b) (j + i) 0 ≡ get_or b (i + j) 0
@@ -46,14 +46,14 @@ pub to_front_spec : {M : Type 1} → statement M
 to_front_spec =
     tie.close
     (tie.spec
-    invariant-loop
-    decreases-loop
-    (λ c. search laws)  -- loop-holds
-    (λ c. search laws)  -- add-buffer
-    (λ c. search laws)  -- slice-read-buffer
-    (λ c. search laws)  -- slice-write-buffer
-    (λ c. search laws)  -- add-i
-    (λ c. search laws)  -- loop-less
-    (λ c. search laws)  -- loop-again
-    (λ c. search laws)  -- same-length
+    invariant-loop-i
+    decreases-loop-i
+    (λ c. search laws)  -- loop-i-init
+    (λ c. search laws)  -- overflow_add-buffer
+    (λ c. search laws)  -- bounds-buffer-from
+    (λ c. search laws)  -- bounds-buffer-i
+    (λ c. search laws)  -- overflow_add-i
+    (λ c. search laws)  -- loop-i-smaller
+    (λ c. search laws)  -- loop-i-preserved
+    (λ c. search laws)  -- shape_of-buffer
     (λ c. search laws))  -- returns

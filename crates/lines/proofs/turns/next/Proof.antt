@@ -30,8 +30,8 @@ next_spec =
     tie.close
     (tie.spec
     (λ c κs. search laws)  -- write-requires
-    (λ c. search laws)  -- returns
+    (λ c. search laws)  -- returns-then-most-s
     (λ c κs. search laws)  -- take-requires
-    (λ c κs. search laws)  -- turn-of-requires
-    (λ c. search laws)  -- same-length
-    (λ c. search laws))  -- returns_2
+    (λ c κs. search laws)  -- turn_of-requires
+    (λ c. search laws)  -- shape_of-input
+    (λ c. search laws))  -- returns

@@ -36,13 +36,13 @@ pub turn_of_spec : {M : Type 1} → statement M
 turn_of_spec =
     tie.close
     (tie.spec
-    (λ c. search laws)  -- enum-known-taken
-    (λ c. search laws)  -- enum-known-taken-2
+    (λ c. search laws)  -- enum_known-taken
+    (λ c. search laws)  -- enum_known-taken-in-More-1
     (λ c κs. search laws)  -- write-requires
-    (λ c. search laws)  -- returns
-    (λ c. search laws)  -- enum-told
-    (λ c. search laws)  -- returns_2
-    (λ c κs. search laws)  -- write-requires-2
-    (λ c. search laws)  -- returns_3
-    (λ c. search laws)  -- returns-4
-    (λ c. search laws))  -- returns_5
+    (λ c. search laws)  -- returns-then-s-gt0
+    (λ c. search laws)  -- enum_told-1
+    (λ c. search laws)  -- returns-then-s-eq0
+    (λ c κs. search laws)  -- write-requires-in-End
+    (λ c. search laws)  -- returns-in-Line
+    (λ c. search laws)  -- returns-else-s-gt0
+    (λ c. search laws))  -- returns-else-s-eq0

@@ -20,7 +20,7 @@ pub answer_spec : {M : Type 1} → statement M
 answer_spec =
     tie.close
     (tie.spec
-    (λ c. search rules)  -- enum-known-self
-    (λ c. search rules)  -- enum-known-self-2
-    (λ c. search (done, rules))  -- returns
-    (λ c. search (refused, rules)))  -- returns_2
+    (λ c. search rules)  -- enum_known-self
+    (λ c. search rules)  -- enum_known-self-in-Refused-1
+    (λ c. search (done, rules))  -- returns-in-Done
+    (λ c. search (refused, rules)))  -- returns-in-Refused

@@ -20,5 +20,5 @@ pub is_whole_spec : {M : Type 1} → statement M
 is_whole_spec =
     tie.close
     (tie.spec
-    (λ c. search laws)  -- returns
-    (λ c. search laws))  -- returns_2
+    (λ c. search laws)  -- returns-then-n-le2
+    (λ c. search laws))  -- returns-else-n-le2

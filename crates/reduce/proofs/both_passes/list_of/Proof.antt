@@ -20,9 +20,9 @@ pub list_of_spec : {M : Type 1} → statement M
 list_of_spec =
     tie.close
     (tie.spec
-    (λ c. search laws)  -- returns
-    (λ c. search laws)  -- mul-result
-    (λ c. search laws)  -- sub-result
-    (λ c. search laws)  -- part-result-start
-    (λ c. search laws)  -- part-result-end
-    (λ c. search laws))  -- returns_2
+    (λ c. search laws)  -- returns-then-whole
+    (λ c. search laws)  -- overflow_mul-result
+    (λ c. search laws)  -- slice_bounds-result-count
+    (λ c. search laws)  -- slice_bounds-result-start
+    (λ c. search laws)  -- slice_bounds-result-end
+    (λ c. search laws))  -- returns

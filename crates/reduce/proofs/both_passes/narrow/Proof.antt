@@ -138,23 +138,23 @@ module _ (list : List ℤ) (tolerance : Float) (out scratch : List ℤ) (marks :
                 answers_narrowed list tolerance out scratch marks (test_is list tolerance all false a e),
               )
 
-returns_2 : tie.Need-returns-2
+returns_2 : tie.Need-returns
 returns_2 c = search (narrowed, rules)
 
 pub narrow_spec : {M : Type 1} → statement M
 narrow_spec =
     tie.close
     (tie.spec
-    (λ c κs. tt)  -- is-whole-requires
-    (λ c κs. (search good_points, search scratch_fits))  -- radial-unless-requires
-    (λ c κs. search (part_fits, rules))  -- list-of-requires
-    (λ c κs. search points_fit)  -- keep-all-requires
-    (λ c. search rules)  -- same-length
-    (λ c. search rules)  -- same-length-2
-    (λ c. search (in_whole, rules))  -- returns
-    (λ c κs. tt)  -- mark-waiting-requires
-    (λ c κs. (search a_mark_each, search places_fit))  -- keep-marked-requires
-    (λ c. search rules)  -- same-length-3
-    (λ c. search rules)  -- same-length-4
-    (λ c. search rules)  -- same-length-5
+    (λ c κs. tt)  -- is_whole-whole-requires
+    (λ c κs. (search good_points, search scratch_fits))  -- radial_unless-kept-requires
+    (λ c κs. search (part_fits, rules))  -- list_of-list-requires
+    (λ c κs. search points_fit)  -- keep_all-requires
+    (λ c. search rules)  -- shape_of-out-then-whole
+    (λ c. search rules)  -- shape_of-scratch-then-whole
+    (λ c. search (in_whole, rules))  -- returns-then-whole
+    (λ c κs. tt)  -- mark_waiting-requires
+    (λ c κs. (search a_mark_each, search places_fit))  -- keep_marked-requires
+    (λ c. search rules)  -- shape_of-out
+    (λ c. search rules)  -- shape_of-scratch
+    (λ c. search rules)  -- shape_of-marks
     returns_2)

@@ -27,7 +27,7 @@ pub radial_unless_spec : {M : Type 1} → statement M
 radial_unless_spec =
     tie.close
     (tie.spec
-    (λ c. search laws)  -- returns
-    (λ c κs. search laws)  -- keep-far-requires
-    (λ c. search laws)  -- same-length
-    (λ c. search laws))  -- returns_2
+    (λ c. search laws)  -- returns-then-whole
+    (λ c κs. search laws)  -- keep_far-requires
+    (λ c. search laws)  -- shape_of-scratch
+    (λ c. search laws))  -- returns

@@ -52,16 +52,16 @@ pub reduce_spec : {M : Type 1} → statement M
 reduce_spec =
     tie.close
     (tie.spec
-    (λ c κs. tt)  -- too-many-requires
-    (λ c. search too_many_lem)  -- returns
-    (λ c κs. tt)  -- bad-points-requires
-    (λ c. search bad_point)  -- returns_2
-    (λ c κs. tt)  -- bad-tolerance-requires
-    (λ c. search bad_tolerance_lem)  -- returns_3
+    (λ c κs. tt)  -- too_many-requires
+    (λ c. search too_many_lem)  -- returns-then-too_many
+    (λ c κs. tt)  -- bad_points-requires
+    (λ c. search bad_point)  -- returns-then-bad_points
+    (λ c κs. tt)  -- bad_tolerance-requires
+    (λ c. search bad_tolerance_lem)  -- returns-then-bad_tolerance
     (λ c κs. tt)  -- short-requires
-    (λ c. search no_room)  -- returns-4
+    (λ c. search no_room)  -- returns-then-short
     (λ c κs. search nothing_refused)  -- narrow-requires
-    (λ c. search rules)  -- same-length
-    (λ c. search rules)  -- same-length-2
-    (λ c. search rules)  -- same-length-3
-    (λ c. search answered))  -- returns_5
+    (λ c. search rules)  -- shape_of-out
+    (λ c. search rules)  -- shape_of-scratch
+    (λ c. search rules)  -- shape_of-marks
+    (λ c. search answered))  -- returns

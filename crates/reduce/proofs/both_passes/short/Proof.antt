@@ -29,7 +29,7 @@ pub short_spec : {M : Type 1} → statement M
 short_spec =
     tie.close
     (tie.spec
-    (λ c κs. tt)  -- places-for-requires
-    (λ c. search laws)  -- returns
-    (λ c. search laws)  -- returns_2
-    (λ c. search laws))  -- returns_3
+    (λ c κs. tt)  -- places_for-requires
+    (λ c. search laws)  -- returns-then-out-places_for
+    (λ c. search laws)  -- returns-then-scratch-n
+    (λ c. search laws))  -- returns

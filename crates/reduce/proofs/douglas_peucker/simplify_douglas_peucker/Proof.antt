@@ -22,8 +22,8 @@ pub simplify_douglas_peucker_spec : {M : Type 1} → statement M
 simplify_douglas_peucker_spec =
     tie.close
     (tie.spec
-    (λ c κs. tt)  -- simplify-douglas-peucker-counted-requires
+    (λ c κs. tt)  -- simplify_douglas_peucker_counted-requires
     (λ c κs. tt)  -- answer-requires
-    (λ c. search rules)  -- same-length
-    (λ c. search rules)  -- same-length-2
+    (λ c. search rules)  -- shape_of-out
+    (λ c. search rules)  -- shape_of-marks
     (λ c. search handed_on))  -- returns

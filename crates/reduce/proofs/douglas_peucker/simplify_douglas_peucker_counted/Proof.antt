@@ -92,25 +92,25 @@ module _ (list : List ℤ) (tolerance : Float) (out : List ℤ) (marks : List �
                   kept_over (marks_of tolerance list) marks (points list) short,
                 )
 
-returns_7 : tie.Need-returns-7
+returns_7 : tie.Need-returns
 returns_7 c = search done
 
 pub simplify_douglas_peucker_counted_spec : {M : Type 1} → statement M
 simplify_douglas_peucker_counted_spec =
     tie.close
     (tie.spec
-    (λ c κs. tt)  -- too-many-requires
-    (λ c. search too_many_lem)  -- returns
-    (λ c κs. tt)  -- bad-points-requires
-    (λ c. search bad_point)  -- returns_2
-    (λ c. search none)  -- returns_3
-    (λ c κs. tt)  -- bad-sq-tolerance-requires
-    (λ c. search bad_tolerance_lem)  -- returns-4
-    (λ c κs. tt)  -- places-for-requires
-    (λ c. search no_room)  -- returns_5
-    (λ c. search no_marks)  -- returns_6
-    (λ c κs. tt)  -- mark-waiting-requires
-    (λ c κs. (search a_mark_each, search places_fit))  -- keep-marked-requires
-    (λ c. search rules)  -- same-length
-    (λ c. search rules)  -- same-length-2
+    (λ c κs. tt)  -- too_many-requires
+    (λ c. search too_many_lem)  -- returns-then-too_many
+    (λ c κs. tt)  -- bad_points-requires
+    (λ c. search bad_point)  -- returns-then-bad_points
+    (λ c. search none)  -- returns-then-n-eq0
+    (λ c κs. tt)  -- bad_sq_tolerance-requires
+    (λ c. search bad_tolerance_lem)  -- returns-then-bad_sq_tolerance
+    (λ c κs. tt)  -- places_for-requires
+    (λ c. search no_room)  -- returns-then-out-places_for
+    (λ c. search no_marks)  -- returns-then-marks-n
+    (λ c κs. tt)  -- mark_waiting-distances-requires
+    (λ c κs. (search a_mark_each, search places_fit))  -- keep_marked-requires
+    (λ c. search rules)  -- shape_of-out
+    (λ c. search rules)  -- shape_of-marks
     returns_7)

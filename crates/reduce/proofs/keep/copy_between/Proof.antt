@@ -32,11 +32,11 @@ rest list numbers tolerance i = select (marks_after tolerance (drop (upto list i
 abbrev whole : List ℤ → List Float → Float → List PointI32
 whole list numbers tolerance = kept (marks_by tolerance numbers) (points list)
 
-abbrev invariant-loop : tie.invariant-loop
-invariant-loop list numbers tolerance out₀ last kept₀ i₀ out kept i = Left (whole list numbers tolerance) out₀ kept (rest list numbers tolerance i) out
+abbrev invariant-loop-i : tie.invariant-loop-i
+invariant-loop-i list numbers tolerance out₀ last kept₀ i₀ out kept i = Left (whole list numbers tolerance) out₀ kept (rest list numbers tolerance i) out
 
-abbrev decreases-loop : tie.decreases-loop
-decreases-loop list numbers tolerance out₀ last kept₀ i₀ out kept i = length numbers - i
+abbrev decreases-loop-i : tie.decreases-loop-i
+decreases-loop-i list numbers tolerance out₀ last kept₀ i₀ out kept i = length numbers - i
 
 module _ (list : List ℤ) (numbers : List Float) (tolerance : Float) (some : 0 < count list) (each : length numbers ≡ count list) (old : List ℤ) where
   started : Left (whole list numbers tolerance) old 1 (drop 1 (whole list numbers tolerance)) old →
@@ -88,18 +88,18 @@ pub copy_between_spec : {M : Type 1} → statement M
 copy_between_spec =
     tie.close
     (tie.spec
-    invariant-loop
-    decreases-loop
-    (λ c. search rules)  -- sub-last
-    (λ c. search started)  -- loop-holds
-    (λ c. search rules)  -- add-i
-    (λ c. search rules)  -- mul-if1
-    (λ c. search rules)  -- shared-slice-read-if1
-    (λ c κs. (search rules, search next_place))  -- copy-point-requires
-    (λ c. search rules)  -- add-kept
-    (λ c. search rules)  -- loop-less
-    (λ c. search kept_one)  -- loop-again
-    (λ c. search rules)  -- loop-less-2
-    (λ c. search dropped_one)  -- loop_again_2
-    (λ c. search rules)  -- same-length
+    invariant-loop-i
+    decreases-loop-i
+    (λ c. search rules)  -- overflow_sub-last
+    (λ c. search started)  -- loop-i-init
+    (λ c. search rules)  -- overflow_add-i
+    (λ c. search rules)  -- offset_bounds-numbers-k
+    (λ c. search rules)  -- bounds-numbers-k
+    (λ c κs. (search rules, search next_place))  -- copy_point-requires
+    (λ c. search rules)  -- overflow_add-kept
+    (λ c. search rules)  -- loop-i-smaller-then-tolerance-numbers
+    (λ c. search kept_one)  -- loop-i-preserved-then-tolerance-numbers
+    (λ c. search rules)  -- loop-i-smaller
+    (λ c. search dropped_one)  -- loop-i-preserved
+    (λ c. search rules)  -- shape_of-out
     (λ c. (search last_place, search finished)))  -- returns

@@ -25,11 +25,11 @@ rest list marks i = select (drop i marks) (drop i (points list))
 abbrev whole : List ℤ → List ℕ → List PointI32
 whole list marks = select marks (points list)
 
-abbrev invariant-loop : tie.invariant-loop
-invariant-loop list marks out₀ kept₀ i₀ out kept i = (i ≤ count list) × Left (whole list marks) out₀ kept (rest list marks i) out
+abbrev invariant-loop-i : tie.invariant-loop-i
+invariant-loop-i list marks out₀ kept₀ i₀ out kept i = (i ≤ count list) × Left (whole list marks) out₀ kept (rest list marks i) out
 
-abbrev decreases-loop : tie.decreases-loop
-decreases-loop list marks out₀ kept₀ i₀ out kept i = count list - i
+abbrev decreases-loop-i : tie.decreases-loop-i
+decreases-loop-i list marks out₀ kept₀ i₀ out kept i = count list - i
 
 module _ (list : List ℤ) (marks : List ℕ) (old : List ℤ) where
   started : count list ≤ count old → Left (whole list marks) old 0 (rest list marks 0) old
@@ -66,16 +66,16 @@ pub copy_marked_spec : {M : Type 1} → statement M
 copy_marked_spec =
     tie.close
     (tie.spec
-    invariant-loop
-    decreases-loop
-    (λ c. (search rules, search started))  -- loop-holds
-    (λ c. search rules)  -- add-i
-    (λ c. search rules)  -- shared-slice-read-if1
-    (λ c κs. (search rules, search next_place))  -- copy-point-requires
-    (λ c. search rules)  -- add-kept
-    (λ c. search rules)  -- loop-less
-    (λ c. (search rules, search kept_one))  -- loop-again
-    (λ c. search rules)  -- loop-less-2
-    (λ c. (search rules, search dropped_one))  -- loop_again_2
-    (λ c. search rules)  -- same-length
+    invariant-loop-i
+    decreases-loop-i
+    (λ c. (search rules, search started))  -- loop-i-init
+    (λ c. search rules)  -- overflow_add-i
+    (λ c. search rules)  -- bounds-marks-k
+    (λ c κs. (search rules, search next_place))  -- copy_point-requires
+    (λ c. search rules)  -- overflow_add-kept
+    (λ c. search rules)  -- loop-i-smaller-then-marks-k-ne0
+    (λ c. (search rules, search kept_one))  -- loop-i-preserved-then-marks-k-ne0
+    (λ c. search rules)  -- loop-i-smaller
+    (λ c. (search rules, search dropped_one))  -- loop-i-preserved
+    (λ c. search rules)  -- shape_of-out
     (λ c. search finished))  -- returns

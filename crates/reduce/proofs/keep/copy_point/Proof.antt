@@ -34,19 +34,19 @@ pub copy_point_spec : {M : Type 1} → statement M
 copy_point_spec =
     tie.close
     (tie.spec
-    (λ c. search laws)  -- mul-x
-    (λ c. search laws)  -- mul-x-2
-    (λ c. search laws)  -- shared-slice-copy-out-x
-    (λ c. search laws)  -- mul-y
-    (λ c. search laws)  -- add-y
-    (λ c. search laws)  -- mul-y-2
-    (λ c. search laws)  -- shared-slice-copy-out-y
-    (λ c. search laws)  -- mul-x-3
-    (λ c. search laws)  -- mul-x-4
-    (λ c. search laws)  -- slice-set-from-x
-    (λ c. search laws)  -- mul-y-3
-    (λ c. search laws)  -- add-y-2
-    (λ c. search laws)  -- mul-y-4
-    (λ c. search laws)  -- slice-set-from-y
-    (λ c. search laws)  -- same-length
+    (λ c. search laws)  -- overflow_mul-x
+    (λ c. search laws)  -- offset_bounds-points-k
+    (λ c. search laws)  -- bounds-points-k
+    (λ c. search laws)  -- overflow_mul-y
+    (λ c. search laws)  -- overflow_add-y
+    (λ c. search laws)  -- offset_bounds-points-k-2
+    (λ c. search laws)  -- bounds-points-k-2
+    (λ c. search laws)  -- overflow_mul-x-2
+    (λ c. search laws)  -- offset_bounds-out-at
+    (λ c. search laws)  -- bounds-out-at
+    (λ c. search laws)  -- overflow_mul-y-2
+    (λ c. search laws)  -- overflow_add-y-2
+    (λ c. search laws)  -- offset_bounds-out-at-2
+    (λ c. search laws)  -- bounds-out-at-2
+    (λ c. search laws)  -- shape_of-out
     (λ c. search laws))  -- returns

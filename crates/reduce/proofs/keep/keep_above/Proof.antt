@@ -58,10 +58,10 @@ pub keep_above_spec : {M : Type 1} → statement M
 keep_above_spec =
     tie.close
     (tie.spec
-    (λ c κs. (search rules, search first_place))  -- copy-point-requires
-    (λ c κs. (search rules, search rules, search started))  -- copy-between-requires
-    (λ c. search rules)  -- sub-copy-point
-    (λ c κs. search rules)  -- copy-point-requires-2
-    (λ c. search rules)  -- add-result
-    (λ c. search rules)  -- same-length
+    (λ c κs. (search rules, search first_place))  -- copy_point-requires
+    (λ c κs. (search rules, search rules, search started))  -- copy_between-kept-requires
+    (λ c. search rules)  -- overflow_sub-points
+    (λ c κs. search rules)  -- copy_point-requires-2
+    (λ c. search rules)  -- overflow_add-result
+    (λ c. search rules)  -- shape_of-out
     (λ c. search finished))  -- returns

@@ -17,11 +17,11 @@ use Rattle.laws.proofs.Lists.{over_push, over_nil}
 use Rattle.reduce.proofs.keep.keep_all.Statement.{statement}
 use Rattle.reduce.proofs.keep.keep_all.Tie as tie
 
-abbrev invariant-loop : tie.invariant-loop
-invariant-loop points out₀ i₀ out i = (i ≤ length points) × (length out ≡ length out₀) × (out ≡ over (take i points) out₀)
+abbrev invariant-loop-i : tie.invariant-loop-i
+invariant-loop-i points out₀ i₀ out i = (i ≤ length points) × (length out ≡ length out₀) × (out ≡ over (take i points) out₀)
 
-abbrev decreases-loop : tie.decreases-loop
-decreases-loop points out₀ i₀ out i = length points - i
+abbrev decreases-loop-i : tie.decreases-loop-i
+decreases-loop-i points out₀ i₀ out i = length points - i
 
 begun : (points out : List ℤ) → out ≡ over (take 0 points) out
 begun points out = sym (over_nil out)
@@ -48,15 +48,15 @@ pub keep_all_spec : {M : Type 1} → statement M
 keep_all_spec =
     tie.close
     (tie.spec
-    invariant-loop
-    decreases-loop
-    (λ c. (search rules, search rules, search begun))  -- loop-holds
-    (λ c. search rules)  -- mul-out
-    (λ c. search rules)  -- shared-slice-copy-out-out
-    (λ c. search rules)  -- mul-t8
-    (λ c. search rules)  -- slice-set-from-out
-    (λ c. search rules)  -- add-i
-    (λ c. search rules)  -- loop-less
-    (λ c. (search rules, search rules, search stored))  -- loop-again
-    (λ c. search rules)  -- same-length
+    invariant-loop-i
+    decreases-loop-i
+    (λ c. (search rules, search rules, search begun))  -- loop-i-init
+    (λ c. search rules)  -- offset_bounds-points-i
+    (λ c. search rules)  -- bounds-points-i
+    (λ c. search rules)  -- offset_bounds-out-i
+    (λ c. search rules)  -- bounds-out-i
+    (λ c. search rules)  -- overflow_add-i
+    (λ c. search rules)  -- loop-i-smaller
+    (λ c. (search rules, search rules, search stored))  -- loop-i-preserved
+    (λ c. search rules)  -- shape_of-out
     (λ c. search all_stored))  -- returns

@@ -48,10 +48,10 @@ pub keep_marked_spec : {M : Type 1} → statement M
 keep_marked_spec =
     tie.close
     (tie.spec
-    (λ c κs. (search rules, search first_place))  -- copy-point-requires
-    (λ c κs. (search rules, search (second_place, rules)))  -- copy-point-requires-2
-    (λ c. search rules)  -- same-length
-    (λ c. search single)  -- returns
-    (λ c κs. (search rules, search as_many))  -- copy-marked-requires
-    (λ c. search rules)  -- same-length-2
-    (λ c. search finished))  -- returns_2
+    (λ c κs. (search rules, search first_place))  -- copy_point-requires
+    (λ c κs. (search rules, search (second_place, rules)))  -- copy_point-requires-then-points-eq1
+    (λ c. search rules)  -- shape_of-out-then-points-eq1
+    (λ c. search single)  -- returns-then-points-eq1
+    (λ c κs. (search rules, search as_many))  -- copy_marked-requires
+    (λ c. search rules)  -- shape_of-out
+    (λ c. search finished))  -- returns

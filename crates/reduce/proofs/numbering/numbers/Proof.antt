@@ -21,7 +21,7 @@ pub numbers_spec : {M : Type 1} → statement M
 numbers_spec =
     tie.close
     (tie.spec
-    (λ c κs. tt)  -- numbers-counted-requires
+    (λ c κs. tt)  -- numbers_counted-requires
     (λ c κs. tt)  -- answer-requires
-    (λ c. search rules)  -- same-length
+    (λ c. search rules)  -- shape_of-out
     (λ c. search handed_on))  -- returns

@@ -61,20 +61,20 @@ module _ (list : List ℤ) (out : List Float) (many : Bool) (m : many ≡ too_ma
             in
             rw (← m, e, ← b, f, ne_eqb _ _ some, ← p, le-ltb _ _ h, is, looks)
 
-returns_5 : tie.Need-returns-5
+returns_5 : tie.Need-returns
 returns_5 c = search done
 
 pub numbers_counted_spec : {M : Type 1} → statement M
 numbers_counted_spec =
     tie.close
     (tie.spec
-    (λ c κs. tt)  -- too-many-requires
-    (λ c. search too_many_lem)  -- returns
-    (λ c κs. tt)  -- bad-points-requires
-    (λ c. search bad_point)  -- returns_2
-    (λ c. search none)  -- returns_3
-    (λ c κs. tt)  -- places-for-requires
-    (λ c. search no_room)  -- returns-4
-    (λ c κs. tt)  -- number-waiting-requires
-    (λ c. search rules)  -- same-length
+    (λ c κs. tt)  -- too_many-requires
+    (λ c. search too_many_lem)  -- returns-then-too_many
+    (λ c κs. tt)  -- bad_points-requires
+    (λ c. search bad_point)  -- returns-then-bad_points
+    (λ c. search none)  -- returns-then-n-eq0
+    (λ c κs. tt)  -- places_for-requires
+    (λ c. search no_room)  -- returns-then-out-places_for
+    (λ c κs. tt)  -- number_waiting-distances-requires
+    (λ c. search rules)  -- shape_of-out
     returns_5)

@@ -15,5 +15,5 @@ pub difference_spec : {M : Type 1} → statement M
 difference_spec =
     tie.close
     (tie.spec
-    (λ c. simp (to_z-of_z, c.ranges.a, c.ranges.b) (fits c))  -- sub-result
+    (λ c. simp (to_z-of_z, c.ranges.a, c.ranges.b) (fits c))  -- overflow_sub-result
     (λ c. simp (to_z-of_z, c.ranges.a, c.ranges.b, fits c) (refl, abs_sub_le c.args.a c.args.b c.requires.0 c.requires.1)))  -- returns

@@ -26,13 +26,13 @@ use Rattle.reduce.proofs.radial.keep_far.Tie as tie
 unfoldable rest : List ℤ → Float → PointI32 → ℕ → List PointI32
 rest list tolerance prev k = radial_from tolerance (point_at list (count list - 1)) prev (drop k (points list))
 
-abbrev invariant-loop : tie.invariant-loop
-invariant-loop list tolerance out₀ n prev₀ kept₀ k₀ out prev kept k =
+abbrev invariant-loop-k : tie.invariant-loop-k
+invariant-loop-k list tolerance out₀ n prev₀ kept₀ k₀ out prev kept k =
     (k ≤ count list) × (nat_abs prev.x ≤ 16383) × (nat_abs prev.y ≤ 16383)
     × Left (radial tolerance (points list)) out₀ kept (rest list tolerance prev k) out
 
-abbrev decreases-loop : tie.decreases-loop
-decreases-loop list tolerance out₀ n prev₀ kept₀ k₀ out prev kept k = count list - k
+abbrev decreases-loop-k : tie.decreases-loop-k
+decreases-loop-k list tolerance out₀ n prev₀ kept₀ k₀ out prev kept k = count list - k
 
 module _ (list : List ℤ) (good : bad_points list ≡ false) where
   -- a point of the list lies within the limits
@@ -112,32 +112,32 @@ dropped_one : (p prev : PointI32) (d : Float) → d ≡ sq_dist p prev → (list
     Left (whole list tolerance) old kept (rest list tolerance prev (k + 1)) out
 dropped_one p prev d f list tolerance old kept k out l h e t = passed l (is_near list tolerance old kept k out prev l p d h e f t)
 
-returns : tie.Need-returns invariant-loop decreases-loop
+returns : tie.Need-returns-then-n-le2 invariant-loop-k decreases-loop-k
 returns c = search copied
 
 pub keep_far_spec : {M : Type 1} → statement M
 keep_far_spec =
     tie.close
     (tie.spec
-    invariant-loop
-    decreases-loop
-    (λ c κs. search rules)  -- keep-all-requires
-    (λ c. search rules)  -- same-length
+    invariant-loop-k
+    decreases-loop-k
+    (λ c κs. search rules)  -- keep_all-requires
+    (λ c. search rules)  -- shape_of-out-then-n-le2
     returns
-    (λ c κs. tt)  -- point-at-requires
+    (λ c κs. tt)  -- point_at-prev-requires
     (λ c κs. tt)  -- put-requires
-    (λ c. (search rules, search limit_x, search limit_y, search started))  -- loop-holds
-    (λ c κs. tt)  -- point-at-requires-2
-    (λ c. search rules)  -- add-k
-    (λ c κs. (search limit_x, search limit_y, search rules, search rules))  -- get-sq-dist-requires
-    (λ c κs. tt)  -- put-requires-2
-    (λ c. search rules)  -- add-kept
-    (λ c. search rules)  -- loop-less
-    (λ c. (search rules, search limit_x, search limit_y, search kept_one))  -- loop-again
-    (λ c. search rules)  -- loop-less-2
-    (λ c. (search rules, search rules, search rules, search (dropped_one _ _ _ c.before.get-sq-dist.ensures)))  -- loop_again_2
-    (λ c. search rules)  -- sub-point-at
-    (λ c κs. tt)  -- point-at-requires-3
-    (λ c κs. search last_fits)  -- with-last-requires
-    (λ c. search rules)  -- same-length-2
-    (λ c. search finished))  -- returns_2
+    (λ c. (search rules, search limit_x, search limit_y, search started))  -- loop-k-init
+    (λ c κs. tt)  -- point_at-p-requires
+    (λ c. search rules)  -- overflow_add-k
+    (λ c κs. (search limit_x, search limit_y, search rules, search rules))  -- get_sq_dist-requires
+    (λ c κs. tt)  -- put-requires-then-tolerance-get_sq_dist
+    (λ c. search rules)  -- overflow_add-kept
+    (λ c. search rules)  -- loop-k-smaller-then-tolerance-get_sq_dist
+    (λ c. (search rules, search limit_x, search limit_y, search kept_one))  -- loop-k-preserved-then-tolerance-get_sq_dist
+    (λ c. search rules)  -- loop-k-smaller
+    (λ c. (search rules, search rules, search rules, search (dropped_one _ _ _ c.before.get_sq_dist.ensures)))  -- loop-k-preserved
+    (λ c. search rules)  -- overflow_sub-n
+    (λ c κs. tt)  -- point_at-requires
+    (λ c κs. search last_fits)  -- with_last-requires
+    (λ c. search rules)  -- shape_of-out
+    (λ c. search finished))  -- returns

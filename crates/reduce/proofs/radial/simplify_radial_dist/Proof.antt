@@ -46,14 +46,14 @@ pub simplify_radial_dist_spec : {M : Type 1} → statement M
 simplify_radial_dist_spec =
     tie.close
     (tie.spec
-    (λ c κs. tt)  -- too-many-requires
-    (λ c. search too_many_lem)  -- returns
-    (λ c κs. tt)  -- bad-points-requires
-    (λ c. search bad_point)  -- returns_2
-    (λ c κs. tt)  -- bad-sq-tolerance-requires
-    (λ c. search bad_tolerance_lem)  -- returns_3
-    (λ c κs. tt)  -- places-for-requires
-    (λ c. search no_room)  -- returns-4
-    (λ c κs. search (not_bad, list_fits))  -- keep-far-requires
-    (λ c. search rules)  -- same-length
-    (λ c. search done))  -- returns_5
+    (λ c κs. tt)  -- too_many-requires
+    (λ c. search too_many_lem)  -- returns-then-too_many
+    (λ c κs. tt)  -- bad_points-requires
+    (λ c. search bad_point)  -- returns-then-bad_points
+    (λ c κs. tt)  -- bad_sq_tolerance-requires
+    (λ c. search bad_tolerance_lem)  -- returns-then-bad_sq_tolerance
+    (λ c κs. tt)  -- places_for-requires
+    (λ c. search no_room)  -- returns-then-out-places_for
+    (λ c κs. search (not_bad, list_fits))  -- keep_far-requires
+    (λ c. search rules)  -- shape_of-out
+    (λ c. search done))  -- returns

@@ -29,8 +29,8 @@ pub squares_spec : {M : Type 1} → statement M
 squares_spec =
     tie.close
     (tie.spec
-    (λ c. simp (to_z-of_z, c.ranges.dx) (dx c))  -- mul-result
-    (λ c. simp (to_z-of_z, c.ranges.dy) (dy c))  -- mul-result-2
-    (λ c. simp (to_z-of_z, c.ranges.dx, c.ranges.dy, dx c, dy c) (both c))  -- add-result
-    (λ c. search rules)  -- int-to-float-result
+    (λ c. simp (to_z-of_z, c.ranges.dx) (dx c))  -- overflow_mul-result
+    (λ c. simp (to_z-of_z, c.ranges.dy) (dy c))  -- overflow_mul-result-2
+    (λ c. simp (to_z-of_z, c.ranges.dx, c.ranges.dy, dx c, dy c) (both c))  -- overflow_add-result
+    (λ c. search rules)  -- int_to_float-result
     (λ c. simp (to_z-of_z, c.before.ranges.dx, c.before.ranges.dy, dx c.before, dy c.before, both c.before)))  -- returns

@@ -48,9 +48,9 @@ pub with_last_spec : {M : Type 1} → statement M
 with_last_spec =
     tie.close
     (tie.spec
-    (λ c κs. tt)  -- same-point-requires
-    (λ c. search laws)  -- returns
+    (λ c κs. tt)  -- same_point-requires
+    (λ c. search laws)  -- returns-then-same_point
     (λ c κs. tt)  -- put-requires
-    (λ c. search laws)  -- add-result
-    (λ c. search laws)  -- same-length
-    (λ c. search laws))  -- returns_2
+    (λ c. search laws)  -- overflow_add-result
+    (λ c. search laws)  -- shape_of-out
+    (λ c. search laws))  -- returns

@@ -54,23 +54,23 @@ module _ (list : List ℤ) (numbers : List Float) (tolerance : Float) (out : Lis
             unfolding zoom_of
             done h n last d = rw (← m, e, ← b, f, eq-eqb _ _ each, ne_eqb _ _ some, ← w, g, ← p, long_enough _ _ h, d.counted, d.written)
 
-returns_7 : tie.Need-returns-7
+returns_7 : tie.Need-returns
 returns_7 c = search done
 
 pub zoom_spec : {M : Type 1} → statement M
 zoom_spec =
     tie.close
     (tie.spec
-    (λ c κs. tt)  -- too-many-requires
-    (λ c. search too_many_lem)  -- returns
-    (λ c κs. tt)  -- bad-points-requires
-    (λ c. search bad_point)  -- returns_2
-    (λ c. search not_each)  -- returns_3
-    (λ c. search none)  -- returns-4
-    (λ c κs. tt)  -- bad-sq-tolerance-requires
-    (λ c. search bad_tolerance_lem)  -- returns_5
-    (λ c κs. tt)  -- places-for-requires
-    (λ c. search no_room)  -- returns_6
-    (λ c κs. (search some_points, search rules, search places_fit))  -- keep-above-requires
-    (λ c. search rules)  -- same-length
+    (λ c κs. tt)  -- too_many-requires
+    (λ c. search too_many_lem)  -- returns-then-too_many
+    (λ c κs. tt)  -- bad_points-requires
+    (λ c. search bad_point)  -- returns-then-bad_points
+    (λ c. search not_each)  -- returns-then-numbers-n
+    (λ c. search none)  -- returns-then-n-eq0
+    (λ c κs. tt)  -- bad_sq_tolerance-requires
+    (λ c. search bad_tolerance_lem)  -- returns-then-bad_sq_tolerance
+    (λ c κs. tt)  -- places_for-requires
+    (λ c. search no_room)  -- returns-then-out-places_for
+    (λ c κs. (search some_points, search rules, search places_fit))  -- keep_above-requires
+    (λ c. search rules)  -- shape_of-out
     returns_7)

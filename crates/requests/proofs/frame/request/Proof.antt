@@ -10,18 +10,18 @@ pub request_spec : {M : Type 1} → statement M
 request_spec =
     tie.close
     (tie.spec
-    (λ c. search laws)  -- returns
-    (λ c. search laws)  -- returns_2
-    (λ c. search laws)  -- shared-slice-read-match
-    (λ c κs. search laws)  -- walk-in-requires
-    (λ c κs. search laws)  -- simplify-in-requires
-    (λ c κs. search laws)  -- reduce-in-requires
-    (λ c κs. search laws)  -- numbers-in-requires
-    (λ c. search laws)  -- returns_3
-    (λ c. search laws)  -- same-length
-    (λ c. search laws)  -- returns-4
-    (λ c. search laws)  -- same-length-2
-    (λ c. search laws)  -- returns_5
-    (λ c. search laws)  -- same-length-3
-    (λ c. search laws)  -- returns-6
-    (λ c. search laws))  -- returns_7
+    (λ c. search laws)  -- returns-then-frame-eq0
+    (λ c. search laws)  -- returns-then-frame-gt-MOST
+    (λ c. search laws)  -- bounds-frame-0
+    (λ c κs. search laws)  -- walk_in-requires
+    (λ c κs. search laws)  -- simplify_in-requires
+    (λ c κs. search laws)  -- reduce_in-requires
+    (λ c κs. search laws)  -- numbers_in-requires
+    (λ c. search laws)  -- returns-in-1
+    (λ c. search laws)  -- shape_of-to-in-2
+    (λ c. search laws)  -- returns-in-2
+    (λ c. search laws)  -- shape_of-to-in-3
+    (λ c. search laws)  -- returns-in-3
+    (λ c. search laws)  -- shape_of-to-in-4
+    (λ c. search laws)  -- returns-in-4
+    (λ c. search laws))  -- returns-in_default

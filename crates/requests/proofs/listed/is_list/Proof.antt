@@ -29,13 +29,13 @@ pub is_list_spec : {M : Type 1} → statement M
 is_list_spec =
     tie.close
     (tie.spec
-    (λ c. search laws)  -- add-if1
-    (λ c. search laws)  -- returns
-    (λ c κs. search laws)  -- word-requires
-    (λ c. search laws)  -- cast-count
-    (λ c. search laws)  -- add-if2
-    (λ c. search laws)  -- mul-if2
-    (λ c. search laws)  -- add-if2-2
-    (λ c. search laws)  -- returns_2
-    (λ c. search laws)  -- mul-result
-    (λ c. search laws))  -- returns_3
+    (λ c. search laws)  -- overflow_add-k
+    (λ c. search laws)  -- returns-then-frame-k
+    (λ c κs. search laws)  -- word-count-requires
+    (λ c. search laws)  -- overflow_cast-count
+    (λ c. search laws)  -- overflow_add-k-2
+    (λ c. search laws)  -- overflow_mul-count
+    (λ c. search laws)  -- overflow_add-k-3
+    (λ c. search laws)  -- returns-then-frame-k-2
+    (λ c. search laws)  -- overflow_mul-result
+    (λ c. search laws))  -- returns

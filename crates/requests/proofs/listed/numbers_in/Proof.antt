@@ -10,11 +10,11 @@ pub numbers_in_spec : {M : Type 1} → statement M
 numbers_in_spec =
     tie.close
     (tie.spec
-    (λ c κs. search laws)  -- is-list-requires
-    (λ c. search laws)  -- returns
-    (λ c. search laws)  -- sub-decode
-    (λ c. search laws)  -- part-decode-start
-    (λ c. search laws)  -- part-decode-end
+    (λ c κs. search laws)  -- is_list-requires
+    (λ c. search laws)  -- returns-then-not-is_list
+    (λ c. search laws)  -- slice_bounds-decode-count
+    (λ c. search laws)  -- slice_bounds-decode-start
+    (λ c. search laws)  -- slice_bounds-decode-end
     (λ c κs. search laws)  -- decode-requires
-    (λ c. search laws)  -- same-length
-    (λ c. search laws))  -- returns_2
+    (λ c. search laws)  -- shape_of-to
+    (λ c. search laws))  -- returns

@@ -15,11 +15,11 @@ use Rattle.requests.proofs.Values.{length_values, value_at}
 use Rattle.requests.proofs.two_bytes.decode.Statement.{statement}
 use Rattle.requests.proofs.two_bytes.decode.Tie as tie
 
-abbrev invariant-loop : tie.invariant-loop
-invariant-loop bytes to₀ n i₀ to i = (i ≤ n) × (length to ≡ length to₀) × (to ≡ over (take i (values_of bytes)) to₀)
+abbrev invariant-loop-i : tie.invariant-loop-i
+invariant-loop-i bytes to₀ n i₀ to i = (i ≤ n) × (length to ≡ length to₀) × (to ≡ over (take i (values_of bytes)) to₀)
 
-abbrev decreases-loop : tie.decreases-loop
-decreases-loop bytes to₀ n i₀ to i = n - i
+abbrev decreases-loop-i : tie.decreases-loop-i
+decreases-loop-i bytes to₀ n i₀ to i = n - i
 
 module _ (bytes : List ℕ) (to₀ to : List ℤ) (i : ℕ) (inv : to ≡ over (take i (values_of bytes)) to₀) where
   again : (n : ℕ) (v : ℤ) → i < length bytes / 2 → length bytes / 2 ≤ length to₀ → n ≡ word_at bytes (i * 2) → v ≡ signed n →
@@ -46,16 +46,16 @@ pub decode_spec : {M : Type 1} → statement M
 decode_spec =
     tie.close
     (tie.spec
-    invariant-loop
-    decreases-loop
-    (λ c. search laws)  -- loop-holds
-    (λ c. search laws)  -- mul-word
+    invariant-loop-i
+    decreases-loop-i
+    (λ c. search laws)  -- loop-i-init
+    (λ c. search laws)  -- overflow_mul-i
     (λ c κs. search laws)  -- word-requires
     (λ c κs. search laws)  -- signed-requires
-    (λ c. search laws)  -- mul-t10
-    (λ c. search laws)  -- slice-set-from-to
-    (λ c. search laws)  -- add-i
-    (λ c. search laws)  -- loop-less
-    (λ c. search laws)  -- loop-again
-    (λ c. search laws)  -- same-length
+    (λ c. search laws)  -- offset_bounds-to-i
+    (λ c. search laws)  -- bounds-to-i
+    (λ c. search laws)  -- overflow_add-i
+    (λ c. search laws)  -- loop-i-smaller
+    (λ c. search laws)  -- loop-i-preserved
+    (λ c. search laws)  -- shape_of-to
     (λ c. search laws))  -- returns

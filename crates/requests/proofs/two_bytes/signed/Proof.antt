@@ -34,8 +34,8 @@ pub signed_spec : {M : Type 1} → statement M
 signed_spec =
     tie.close
     (tie.spec
-    (λ c. search laws)  -- cast-result
-    (λ c. search laws)  -- returns
-    (λ c. search laws)  -- cast-result-2
-    (λ c. search laws)  -- sub-result
-    (λ c. search laws))  -- returns_2
+    (λ c. search laws)  -- overflow_cast-result
+    (λ c. search laws)  -- returns-then-n-lt32768
+    (λ c. search laws)  -- overflow_cast-result-2
+    (λ c. search laws)  -- overflow_sub-result
+    (λ c. search laws))  -- returns

@@ -28,6 +28,6 @@ pub all_rows_spec : {M : Type 1} → statement M
 all_rows_spec =
     tie.close
     (tie.spec
-    (λ c κs. search laws)  -- row-bytes-requires
-    (λ c. search laws)  -- mul-result
+    (λ c κs. search laws)  -- row_bytes-requires
+    (λ c. search laws)  -- overflow_mul-result
     (λ c. search laws))  -- returns

@@ -18,7 +18,7 @@ chart_in_spec =
     tie.close
     (tie.spec
     (λ c κs. search laws)  -- word-requires
-    (λ c. search laws)  -- cast-t3
+    (λ c. search laws)  -- overflow_cast-result
     (λ c κs. search laws)  -- word-requires-2
-    (λ c. search laws)  -- cast-t5
+    (λ c. search laws)  -- overflow_cast-result-2
     (λ c. search laws))  -- returns

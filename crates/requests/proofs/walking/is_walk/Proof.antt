@@ -47,11 +47,11 @@ pub is_walk_spec : {M : Type 1} → statement M
 is_walk_spec =
     tie.close
     (tie.spec
-    (λ c. search laws)  -- returns
-    (λ c. search laws)  -- shared-slice-read-if2
-    (λ c. search laws)  -- returns_2
-    (λ c. search laws)  -- sub-result
+    (λ c. search laws)  -- returns-then-frame-lt-ROWS
+    (λ c. search laws)  -- bounds-frame-1
+    (λ c. search laws)  -- returns-then-frame-gt1
+    (λ c. search laws)  -- overflow_sub-result
     (λ c κs. search laws)  -- word-requires
     (λ c κs. search laws)  -- word-requires-2
-    (λ c κs. search laws)  -- all-rows-requires
-    (λ c. search laws))  -- returns_3
+    (λ c κs. search laws)  -- all_rows-requires
+    (λ c. search laws))  -- returns

@@ -10,9 +10,9 @@ pub walk_in_spec : {M : Type 1} → statement M
 walk_in_spec =
     tie.close
     (tie.spec
-    (λ c κs. search laws)  -- is-walk-requires
-    (λ c. search laws)  -- returns
-    (λ c. search laws)  -- shared-slice-read-t5
-    (λ c κs. search laws)  -- chart-in-requires
-    (λ c κs. search laws)  -- start-in-requires
-    (λ c. search laws))  -- returns_2
+    (λ c κs. search laws)  -- is_walk-requires
+    (λ c. search laws)  -- returns-then-not-is_walk
+    (λ c. search laws)  -- bounds-frame-1
+    (λ c κs. search laws)  -- chart_in-requires
+    (λ c κs. search laws)  -- start_in-requires
+    (λ c. search laws))  -- returns

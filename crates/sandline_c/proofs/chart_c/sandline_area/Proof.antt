@@ -8,7 +8,7 @@ pub sandline_area_spec : {M : Type 1} → statement M
 sandline_area_spec =
     tie.close
     (tie.spec
-    (λ c κs. search rules)  -- area-requires
+    (λ c κs. search rules)  -- area-cells-requires
     (λ c κs. search rules)  -- count-requires
     (λ c κs. search rules)  -- number-requires
     (λ c. search values))  -- returns

@@ -8,11 +8,11 @@ pub sandline_first_start_spec : {M : Type 1} → statement M
 sandline_first_start_spec =
     tie.close
     (tie.spec
-    (λ c κs. search rules)  -- first-start-requires
-    (λ c. search rules)  -- enum-known-p
-    (λ c. search values)  -- enum-told
-    (λ c. search rules)  -- enum-known-refusal
+    (λ c κs. search rules)  -- first_start-requires
+    (λ c. search rules)  -- enum_known-p
+    (λ c. search values)  -- enum_told-1
+    (λ c. search rules)  -- enum_known-refusal
     (λ c κs. search rules)  -- number-requires
-    (λ c. search values)  -- returns
-    (λ c. search values)  -- returns_2
-    (λ c. search values))  -- returns_3
+    (λ c. search values)  -- returns-in-At
+    (λ c. search values)  -- returns-in-NoWay
+    (λ c. search values))  -- returns-in-Refused

@@ -8,7 +8,7 @@ pub sandline_find_corners_spec : {M : Type 1} → statement M
 sandline_find_corners_spec =
     tie.close
     (tie.spec
-    (λ c κs. search rules)  -- find-corners-requires
+    (λ c κs. search rules)  -- find_corners-requires
     (λ c κs. search rules)  -- hand-requires
-    (λ c. search rules)  -- same-length
+    (λ c. search rules)  -- shape_of-flags
     (λ c. search counted))  -- returns

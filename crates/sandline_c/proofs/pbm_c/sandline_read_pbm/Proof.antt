@@ -8,11 +8,11 @@ pub sandline_read_pbm_spec : {M : Type 1} → statement M
 sandline_read_pbm_spec =
     tie.close
     (tie.spec
-    (λ c κs. search rules)  -- read-pbm-requires
-    (λ c. search rules)  -- enum-known-chart
-    (λ c. search rules)  -- enum-known-refusal
+    (λ c κs. search rules)  -- read_pbm-requires
+    (λ c. search rules)  -- enum_known-chart
+    (λ c. search rules)  -- enum_known-refusal
     (λ c κs. search rules)  -- number-requires
-    (λ c. search rules)  -- same-length
-    (λ c. search counted)  -- returns
-    (λ c. search rules)  -- same-length-2
-    (λ c. search counted))  -- returns_2
+    (λ c. search rules)  -- shape_of-pixels-in-Read
+    (λ c. search counted)  -- returns-in-Read
+    (λ c. search rules)  -- shape_of-pixels-in-Refused
+    (λ c. search counted))  -- returns-in-Refused

@@ -8,7 +8,7 @@ pub sandline_write_pbm_spec : {M : Type 1} → statement M
 sandline_write_pbm_spec =
     tie.close
     (tie.spec
-    (λ c κs. search rules)  -- write-pbm-requires
+    (λ c κs. search rules)  -- write_pbm-requires
     (λ c κs. search rules)  -- hand-requires
-    (λ c. search rules)  -- same-length
+    (λ c. search rules)  -- shape_of-out
     (λ c. search counted))  -- returns

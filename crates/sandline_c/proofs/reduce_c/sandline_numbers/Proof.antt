@@ -10,5 +10,5 @@ sandline_numbers_spec =
     (tie.spec
     (λ c κs. search rules)  -- numbers-requires
     (λ c κs. search rules)  -- hand-requires
-    (λ c. search rules)  -- same-length
+    (λ c. search rules)  -- shape_of-out
     (λ c. search counted))  -- returns

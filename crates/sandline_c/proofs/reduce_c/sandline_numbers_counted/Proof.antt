@@ -8,7 +8,7 @@ pub sandline_numbers_counted_spec : {M : Type 1} → statement M
 sandline_numbers_counted_spec =
     tie.close
     (tie.spec
-    (λ c κs. search rules)  -- numbers-counted-requires
-    (λ c κs. search rules)  -- hand-counted-requires
-    (λ c. search rules)  -- same-length
+    (λ c κs. search rules)  -- numbers_counted-requires
+    (λ c κs. search rules)  -- hand_counted-requires
+    (λ c. search rules)  -- shape_of-out
     (λ c. search counted))  -- returns

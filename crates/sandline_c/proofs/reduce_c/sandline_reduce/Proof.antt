@@ -10,7 +10,7 @@ sandline_reduce_spec =
     (tie.spec
     (λ c κs. search rules)  -- reduce-requires
     (λ c κs. search rules)  -- hand-requires
-    (λ c. search rules)  -- same-length
-    (λ c. search rules)  -- same-length-2
-    (λ c. search rules)  -- same-length-3
+    (λ c. search rules)  -- shape_of-out
+    (λ c. search rules)  -- shape_of-scratch
+    (λ c. search rules)  -- shape_of-marks
     (λ c. search counted))  -- returns

@@ -8,8 +8,8 @@ pub sandline_simplify_douglas_peucker_spec : {M : Type 1} → statement M
 sandline_simplify_douglas_peucker_spec =
     tie.close
     (tie.spec
-    (λ c κs. search rules)  -- simplify-douglas-peucker-requires
+    (λ c κs. search rules)  -- simplify_douglas_peucker-requires
     (λ c κs. search rules)  -- hand-requires
-    (λ c. search rules)  -- same-length
-    (λ c. search rules)  -- same-length-2
+    (λ c. search rules)  -- shape_of-out
+    (λ c. search rules)  -- shape_of-marks
     (λ c. search counted))  -- returns

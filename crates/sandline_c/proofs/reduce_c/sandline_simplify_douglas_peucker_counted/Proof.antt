@@ -8,8 +8,8 @@ pub sandline_simplify_douglas_peucker_counted_spec : {M : Type 1} → statement 
 sandline_simplify_douglas_peucker_counted_spec =
     tie.close
     (tie.spec
-    (λ c κs. search rules)  -- simplify-douglas-peucker-counted-requires
-    (λ c κs. search rules)  -- hand-counted-requires
-    (λ c. search rules)  -- same-length
-    (λ c. search rules)  -- same-length-2
+    (λ c κs. search rules)  -- simplify_douglas_peucker_counted-requires
+    (λ c κs. search rules)  -- hand_counted-requires
+    (λ c. search rules)  -- shape_of-out
+    (λ c. search rules)  -- shape_of-marks
     (λ c. search counted))  -- returns

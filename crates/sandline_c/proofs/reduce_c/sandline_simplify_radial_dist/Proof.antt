@@ -8,7 +8,7 @@ pub sandline_simplify_radial_dist_spec : {M : Type 1} → statement M
 sandline_simplify_radial_dist_spec =
     tie.close
     (tie.spec
-    (λ c κs. search rules)  -- simplify-radial-dist-requires
+    (λ c κs. search rules)  -- simplify_radial_dist-requires
     (λ c κs. search rules)  -- hand-requires
-    (λ c. search rules)  -- same-length
+    (λ c. search rules)  -- shape_of-out
     (λ c. search counted))  -- returns

@@ -8,7 +8,7 @@ pub sandline_limit_penalties_spec : {M : Type 1} → statement M
 sandline_limit_penalties_spec =
     tie.close
     (tie.spec
-    (λ c κs. search rules)  -- limit-penalties-requires
+    (λ c κs. search rules)  -- limit_penalties-requires
     (λ c κs. search rules)  -- hand-requires
-    (λ c. search rules)  -- same-length
+    (λ c. search rules)  -- shape_of-out
     (λ c. search counted))  -- returns

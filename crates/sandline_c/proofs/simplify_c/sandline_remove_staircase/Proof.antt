@@ -8,7 +8,7 @@ pub sandline_remove_staircase_spec : {M : Type 1} → statement M
 sandline_remove_staircase_spec =
     tie.close
     (tie.spec
-    (λ c κs. search rules)  -- remove-staircase-requires
+    (λ c κs. search rules)  -- remove_staircase-requires
     (λ c κs. search rules)  -- hand-requires
-    (λ c. search rules)  -- same-length
+    (λ c. search rules)  -- shape_of-out
     (λ c. search counted))  -- returns

@@ -8,13 +8,13 @@ pub sandline_subdivide_keep_corners_spec : {M : Type 1} → statement M
 sandline_subdivide_keep_corners_spec =
     tie.close
     (tie.spec
-    (λ c κs. search rules)  -- subdivide-keep-corners-requires
-    (λ c. search rules)  -- enum-known-points
-    (λ c. search rules)  -- enum-known-refusal
+    (λ c κs. search rules)  -- subdivide_keep_corners-requires
+    (λ c. search rules)  -- enum_known-points
+    (λ c. search rules)  -- enum_known-refusal
     (λ c κs. search rules)  -- number-requires
-    (λ c. search rules)  -- same-length
-    (λ c. search rules)  -- same-length-2
-    (λ c. search counted)  -- returns
-    (λ c. search rules)  -- same-length-3
-    (λ c. search rules)  -- same-length-4
-    (λ c. search counted))  -- returns_2
+    (λ c. search rules)  -- shape_of-out-in-Done
+    (λ c. search rules)  -- shape_of-flags-in-Done
+    (λ c. search counted)  -- returns-in-Done
+    (λ c. search rules)  -- shape_of-out-in-Refused
+    (λ c. search rules)  -- shape_of-flags-in-Refused
+    (λ c. search counted))  -- returns-in-Refused

@@ -9,8 +9,8 @@ begin_spec =
     tie.close
     (tie.spec
     (λ c κs. search rules)  -- spiral-requires
-    (λ c. search rules)  -- enum-known-s
-    (λ c. search rules)  -- enum-known-refusal
+    (λ c. search rules)  -- enum_known-s
+    (λ c. search rules)  -- enum_known-refusal
     (λ c κs. search rules)  -- number-requires
-    (λ c. (search values, search values))  -- returns
-    (λ c. (search values, search values)))  -- returns_2
+    (λ c. (search values, search values))  -- returns-in-Ready
+    (λ c. (search values, search values)))  -- returns-in-Refused

@@ -8,10 +8,10 @@ pub put_step_spec : {M : Type 1} → statement M
 put_step_spec =
     tie.close
     (tie.spec
-    (λ c. search rules)  -- enum-known-step
-    (λ c. search rules)  -- enum-told
-    (λ c. search rules)  -- enum-known-step-2
+    (λ c. search rules)  -- enum_known-step
+    (λ c. search rules)  -- enum_told-1
+    (λ c. search rules)  -- enum_known-step-in-Refused-1
     (λ c κs. search rules)  -- number-requires
-    (λ c. search values)  -- returns
-    (λ c. search values)  -- returns_2
-    (λ c. search values))  -- returns_3
+    (λ c. search values)  -- returns-in-At
+    (λ c. search values)  -- returns-in-End
+    (λ c. search values))  -- returns-in-Refused

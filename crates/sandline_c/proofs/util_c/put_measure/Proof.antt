@@ -8,8 +8,8 @@ pub put_measure_spec : {M : Type 1} → statement M
 put_measure_spec =
     tie.close
     (tie.spec
-    (λ c. search rules)  -- enum-known-measure
-    (λ c. search rules)  -- enum-known-measure-2
+    (λ c. search rules)  -- enum_known-measure
+    (λ c. search rules)  -- enum_known-measure-in-Refused-1
     (λ c κs. search rules)  -- number-requires
-    (λ c. search values)  -- returns
-    (λ c. search values))  -- returns_2
+    (λ c. search values)  -- returns-in-Is
+    (λ c. search values))  -- returns-in-Refused

@@ -8,13 +8,13 @@ pub sandline_find_mid_point_spec : {M : Type 1} → statement M
 sandline_find_mid_point_spec =
     tie.close
     (tie.spec
-    (λ c. search rules)  -- element-copy-out-t9
-    (λ c. search rules)  -- element-copy-out-t12
-    (λ c. search rules)  -- element-copy-out-t9-2
-    (λ c. search rules)  -- element-copy-out-t12-2
-    (λ c κs. search rules)  -- find-mid-point-requires
-    (λ c. search rules)  -- enum-known-p
-    (λ c. search rules)  -- enum-known-refusal
+    (λ c. search rules)  -- bounds-points-0
+    (λ c. search rules)  -- bounds-points-1
+    (λ c. search rules)  -- bounds-points-2
+    (λ c. search rules)  -- bounds-points-3
+    (λ c κs. search rules)  -- find_mid_point-requires
+    (λ c. search rules)  -- enum_known-p
+    (λ c. search rules)  -- enum_known-refusal
     (λ c κs. search rules)  -- number-requires
-    (λ c. search values)  -- returns
-    (λ c. search values))  -- returns_2
+    (λ c. search values)  -- returns-in-At
+    (λ c. search values))  -- returns-in-Refused

@@ -9,5 +9,5 @@ sandline_norm_spec =
     tie.close
     (tie.spec
     (λ c κs. search rules)  -- norm-requires
-    (λ c κs. search rules)  -- put-measure-requires
+    (λ c κs. search rules)  -- put_measure-requires
     (λ c. search values))  -- returns

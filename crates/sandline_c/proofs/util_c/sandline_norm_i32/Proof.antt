@@ -8,6 +8,6 @@ pub sandline_norm_i32_spec : {M : Type 1} → statement M
 sandline_norm_i32_spec =
     tie.close
     (tie.spec
-    (λ c κs. search rules)  -- norm-i32-requires
-    (λ c κs. search rules)  -- put-measure-requires
+    (λ c κs. search rules)  -- norm_i32-requires
+    (λ c κs. search rules)  -- put_measure-requires
     (λ c. search values))  -- returns

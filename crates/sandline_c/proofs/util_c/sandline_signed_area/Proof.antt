@@ -8,15 +8,15 @@ pub sandline_signed_area_spec : {M : Type 1} → statement M
 sandline_signed_area_spec =
     tie.close
     (tie.spec
-    (λ c. search rules)  -- element-copy-out-t10
-    (λ c. search rules)  -- element-copy-out-t13
-    (λ c. search rules)  -- element-copy-out-t10-2
-    (λ c. search rules)  -- element-copy-out-t13-2
-    (λ c. search rules)  -- element-copy-out-t10-3
-    (λ c. search rules)  -- element-copy-out-t13-3
-    (λ c κs. search rules)  -- signed-area-requires
-    (λ c. search rules)  -- enum-known-a
-    (λ c. search rules)  -- enum-known-refusal
+    (λ c. search rules)  -- bounds-points-0
+    (λ c. search rules)  -- bounds-points-1
+    (λ c. search rules)  -- bounds-points-2
+    (λ c. search rules)  -- bounds-points-3
+    (λ c. search rules)  -- bounds-points-4
+    (λ c. search rules)  -- bounds-points-5
+    (λ c κs. search rules)  -- signed_area-requires
+    (λ c. search rules)  -- enum_known-a
+    (λ c. search rules)  -- enum_known-refusal
     (λ c κs. search rules)  -- number-requires
-    (λ c. search values)  -- returns
-    (λ c. search values))  -- returns_2
+    (λ c. search values)  -- returns-in-Area
+    (λ c. search values))  -- returns-in-Refused

@@ -8,8 +8,8 @@ pub sandline_walk_spec : {M : Type 1} → statement M
 sandline_walk_spec =
     tie.close
     (tie.spec
-    (λ c κs. search rules)  -- walk-requires
+    (λ c κs. search rules)  -- walk-walked-requires
     (λ c κs. search rules)  -- count-requires
     (λ c κs. search rules)  -- number-requires
-    (λ c. search rules)  -- same-length
+    (λ c. search rules)  -- shape_of-out
     (λ c. search counted))  -- returns

@@ -28,11 +28,11 @@ cost_of list from to k = penalty (at (points list) from) (at (points list) k) (a
 unfoldable rest : List ℤ → ℕ → ℕ → ℕ → Bool
 rest list from to k = some_reaches (cost_of list from to) (to - k) k
 
-abbrev invariant-loop : tie.invariant-loop
-invariant-loop list from to a c l3 k₀ k = (from < k) × (k ≤ to) × (rest list from to k ≡ too_costly (points list) from to)
+abbrev invariant-loop-k : tie.invariant-loop-k
+invariant-loop-k list from to a c l3 k₀ k = (from < k) × (k ≤ to) × (rest list from to k ≡ too_costly (points list) from to)
 
-abbrev decreases-loop : tie.decreases-loop
-decreases-loop list from to a c l3 k₀ k = to - k
+abbrev decreases-loop-k : tie.decreases-loop-k
+decreases-loop-k list from to a c l3 k₀ k = to - k
 
 below_one : lt (of_int binary64 (pos 0)) (of_int binary64 (pos 1)) ≡ true
 unfolding of_int lt
@@ -76,18 +76,18 @@ pub past_delta_spec : {M : Type 1} → statement M
 past_delta_spec =
     tie.close
     (tie.spec
-    invariant-loop
-    decreases-loop
-    (λ c κs. tt)  -- point-at-requires
-    (λ c κs. tt)  -- point-at-requires-2
-    (λ c κs. search (limit_x, limit_y, rules))  -- side-requires
-    (λ c. search rules)  -- add-k
-    (λ c. (search rules, search rules, started _ _ _))  -- loop-holds
-    (λ c κs. tt)  -- point-at-requires-3
-    (λ c. search rules)  -- add-k-2
-    (λ c κs. search (limit_x, limit_y, rules))  -- evaluate-penalty-requires
+    invariant-loop-k
+    decreases-loop-k
+    (λ c κs. tt)  -- point_at-a-requires
+    (λ c κs. tt)  -- point_at-c-requires
+    (λ c κs. search (limit_x, limit_y, rules))  -- side-l3-requires
+    (λ c. search rules)  -- overflow_add-k
+    (λ c. (search rules, search rules, started _ _ _))  -- loop-k-init
+    (λ c κs. tt)  -- point_at-b-requires
+    (λ c. search rules)  -- overflow_add-k-in-loop-k
+    (λ c κs. search (limit_x, limit_y, rules))  -- evaluate_penalty-requires
     (λ c κs. tt)  -- reaches-requires
-    (λ c. search (costs, worked_out))  -- returns
-    (λ c. search rules)  -- loop-less
-    (λ c. (search rules, search rules, search (goes_on, worked_out)))  -- loop-again
-    (λ c. search ended))  -- returns_2
+    (λ c. search (costs, worked_out))  -- returns-then-reaches
+    (λ c. search rules)  -- loop-k-smaller
+    (λ c. (search rules, search rules, search (goes_on, worked_out)))  -- loop-k-preserved
+    (λ c. search ended))  -- returns

@@ -63,16 +63,16 @@ simplify_spec =
     tie.close
     (tie.spec
     (λ c κs. search laws)  -- judge-requires
-    (λ c. search laws)  -- enum-known-refusal
-    (λ c. search laws)  -- enum-told
-    (λ c. search laws)  -- slice-aggregate-remove-staircase
-    (λ c κs. search laws)  -- remove-staircase-requires
-    (λ c κs. search laws)  -- count-requires
-    (λ c. search laws)  -- mul-limit-penalties
-    (λ c. search laws)  -- sub-limit-penalties
-    (λ c. search laws)  -- part-limit-penalties-start
-    (λ c. search laws)  -- part-limit-penalties-end
-    (λ c κs. search laws)  -- limit-penalties-requires
-    (λ c. search laws)  -- returns
-    (λ c. search laws)  -- same-length
-    (λ c. search laws))  -- returns_2
+    (λ c. search laws)  -- enum_known-refusal
+    (λ c. search laws)  -- enum_told-1
+    (λ c. search laws)  -- slice_bounds-remove_staircase-end
+    (λ c κs. search laws)  -- remove_staircase-requires
+    (λ c κs. search laws)  -- count-kept-requires
+    (λ c. search laws)  -- overflow_mul-kept
+    (λ c. search laws)  -- slice_bounds-limit_penalties-count
+    (λ c. search laws)  -- slice_bounds-limit_penalties-start
+    (λ c. search laws)  -- slice_bounds-limit_penalties-end
+    (λ c κs. search laws)  -- limit_penalties-requires
+    (λ c. search laws)  -- returns-in-Refused
+    (λ c. search laws)  -- shape_of-out
+    (λ c. search laws))  -- returns-in-Fine

@@ -52,15 +52,15 @@ pub keep_costly_spec : {M : Type 1} → statement M
 keep_costly_spec =
     tie.close
     (tie.spec
-    (λ c. search nothing)  -- returns
-    (λ c κs. search rules)  -- keep-many-requires
-    (λ c. search rules)  -- same-length
-    (λ c. search rules)  -- returns_2
-    (λ c κs. tt)  -- point-at-requires
+    (λ c. search nothing)  -- returns-then-n-eq0
+    (λ c κs. search rules)  -- keep_many-requires
+    (λ c. search rules)  -- shape_of-out-then-n-gt2
+    (λ c. search rules)  -- returns-then-n-gt2
+    (λ c κs. tt)  -- point_at-requires
     (λ c κs. tt)  -- put-requires
-    (λ c. search rules)  -- same-length-2
-    (λ c. search two_once)  -- returns_3
-    (λ c κs. tt)  -- point-at-requires-2
+    (λ c. search rules)  -- shape_of-out-then-n-eq2
+    (λ c. search two_once)  -- returns-then-n-eq2
+    (λ c κs. tt)  -- point_at-requires-2
     (λ c κs. tt)  -- put-requires-2
-    (λ c. search rules)  -- same-length-3
-    (λ c. search one_twice))  -- returns-4
+    (λ c. search rules)  -- shape_of-out
+    (λ c. search one_twice))  -- returns

@@ -18,12 +18,12 @@ use Rattle.simplify.proofs.Costly.{costly_from, limit_many, costs_much, costs_le
 use Rattle.simplify.proofs.penalties.keep_many.Statement.{statement}
 use Rattle.simplify.proofs.penalties.keep_many.Tie as tie
 
-abbrev invariant-loop : tie.invariant-loop
-invariant-loop list out₀ n kept₀ last₀ i₀ out kept last i =
+abbrev invariant-loop-i : tie.invariant-loop-i
+invariant-loop-i list out₀ n kept₀ last₀ i₀ out kept last i =
     (last < i) × (1 < i) × (i ≤ count list) × Left (limit_penalties (points list)) out₀ kept (costly_from (points list) i last) out
 
-abbrev decreases-loop : tie.decreases-loop
-decreases-loop list out₀ n kept₀ last₀ i₀ out kept last i = count list - i
+abbrev decreases-loop-i : tie.decreases-loop-i
+decreases-loop-i list out₀ n kept₀ last₀ i₀ out kept last i = count list - i
 
 module _ (list : List ℤ) where
   abbrev whole : List PointI32
@@ -84,24 +84,24 @@ pub keep_many_spec : {M : Type 1} → statement M
 keep_many_spec =
     tie.close
     (tie.spec
-    invariant-loop
-    decreases-loop
-    (λ c κs. tt)  -- point-at-requires
+    invariant-loop-i
+    decreases-loop-i
+    (λ c κs. tt)  -- point_at-requires
     (λ c κs. tt)  -- put-requires
-    (λ c. (search rules, search rules, search rules, search started))  -- loop-holds
-    (λ c κs. search rules)  -- past-delta-requires
-    (λ c. search rules)  -- add-i
-    (λ c. search rules)  -- sub-last
-    (λ c κs. tt)  -- point-at-requires-2
+    (λ c. (search rules, search rules, search rules, search started))  -- loop-i-init
+    (λ c κs. search rules)  -- past_delta-costly-requires
+    (λ c. search rules)  -- overflow_add-i
+    (λ c. search rules)  -- overflow_sub-last
+    (λ c κs. tt)  -- point_at-requires-then-costly
+    (λ c κs. tt)  -- put-requires-then-costly
+    (λ c. search rules)  -- overflow_add-kept
+    (λ c. search rules)  -- loop-i-smaller-then-costly
+    (λ c. (search rules, search rules, search rules, search kept_one))  -- loop-i-preserved-then-costly
+    (λ c. search rules)  -- loop-i-smaller
+    (λ c. (search rules, search rules, search rules, dropped_one _ _ _ _ _ _ c.before.before.before.loop-i.invariant.3 _ c.before.past_delta-costly.ensures c.before.before.loop-i-test.true c.if-costly.false))  -- loop-i-preserved
+    (λ c. search rules)  -- overflow_sub-n
+    (λ c κs. tt)  -- point_at-requires-2
     (λ c κs. tt)  -- put-requires-2
-    (λ c. search rules)  -- add-kept
-    (λ c. search rules)  -- loop-less
-    (λ c. (search rules, search rules, search rules, search kept_one))  -- loop-again
-    (λ c. search rules)  -- loop-less-2
-    (λ c. (search rules, search rules, search rules, dropped_one _ _ _ _ _ _ c.before.before.before.loop.invariant.3 _ c.before.past-delta.ensures c.before.before.loop-test.true c.if1.false))  -- loop_again_2
-    (λ c. search rules)  -- sub-point-at
-    (λ c κs. tt)  -- point-at-requires-3
-    (λ c κs. tt)  -- put-requires-3
-    (λ c. search rules)  -- add-result
-    (λ c. search rules)  -- same-length
+    (λ c. search rules)  -- overflow_add-result
+    (λ c. search rules)  -- shape_of-out
     (λ c. search (finished, all_written)))  -- returns

@@ -23,12 +23,12 @@ use Rattle.simplify.proofs.staircase.keep_outward.Tie as tie
 unfoldable rest : List ℤ → Bool → ℕ → List PointI32
 rest list clockwise i = staircase_from clockwise (point_at list (i - 1)) (drop i (points list))
 
-abbrev invariant-loop : tie.invariant-loop
-invariant-loop list clockwise out₀ n before₀ kept₀ i₀ out before kept i =
+abbrev invariant-loop-i : tie.invariant-loop-i
+invariant-loop-i list clockwise out₀ n before₀ kept₀ i₀ out before kept i =
     (0 < i) × (i < count list) × (before ≡ point_at list (i - 1)) × Left (remove_staircase clockwise (points list)) out₀ kept (rest list clockwise i) out
 
-abbrev decreases-loop : tie.decreases-loop
-decreases-loop list clockwise out₀ n before₀ kept₀ i₀ out before kept i = count list - i
+abbrev decreases-loop-i : tie.decreases-loop-i
+decreases-loop-i list clockwise out₀ n before₀ kept₀ i₀ out before kept i = count list - i
 
 module _ (list : List ℤ) (clockwise : Bool) where
   abbrev whole : List PointI32
@@ -126,27 +126,27 @@ pub keep_outward_spec : {M : Type 1} → statement M
 keep_outward_spec =
     tie.close
     (tie.spec
-    invariant-loop
-    decreases-loop
-    (λ c. search nothing)  -- returns
-    (λ c κs. tt)  -- point-at-requires
+    invariant-loop-i
+    decreases-loop-i
+    (λ c. search nothing)  -- returns-then-n-eq0
+    (λ c κs. tt)  -- point_at-before-requires
     (λ c κs. tt)  -- put-requires
-    (λ c. search rules)  -- same-length
-    (λ c. search one_only)  -- returns_2
-    (λ c. (search rules, search rules, search rules, search started))  -- loop-holds
-    (λ c. search rules)  -- sub-loop
-    (λ c κs. tt)  -- point-at-requires-2
-    (λ c. search rules)  -- add-i
-    (λ c κs. tt)  -- point-at-requires-3
-    (λ c κs. search (limit_x, limit_y))  -- stays-requires
+    (λ c. search rules)  -- shape_of-out-then-n-eq1
+    (λ c. search one_only)  -- returns-then-n-eq1
+    (λ c. (search rules, search rules, search rules, search started))  -- loop-i-init
+    (λ c. search rules)  -- overflow_sub-n
+    (λ c κs. tt)  -- point_at-p-requires
+    (λ c. search rules)  -- overflow_add-i
+    (λ c κs. tt)  -- point_at-requires
+    (λ c κs. search (limit_x, limit_y))  -- stays-outside-requires
+    (λ c κs. tt)  -- put-requires-then-outside
+    (λ c. search rules)  -- overflow_add-kept
+    (λ c. search rules)  -- loop-i-smaller-then-outside
+    (λ c. (search rules, search rules, search moved, search kept_one))  -- loop-i-preserved-then-outside
+    (λ c. search rules)  -- loop-i-smaller
+    (λ c. (search rules, search rules, search moved, search dropped_one))  -- loop-i-preserved
+    (λ c κs. tt)  -- point_at-requires-2
     (λ c κs. tt)  -- put-requires-2
-    (λ c. search rules)  -- add-kept
-    (λ c. search rules)  -- loop-less
-    (λ c. (search rules, search rules, search moved, search kept_one))  -- loop-again
-    (λ c. search rules)  -- loop-less-2
-    (λ c. (search rules, search rules, search moved, search dropped_one))  -- loop_again_2
-    (λ c κs. tt)  -- point-at-requires-4
-    (λ c κs. tt)  -- put-requires-3
-    (λ c. search rules)  -- add-result
-    (λ c. search rules)  -- same-length-2
-    (λ c. search (finished, all_written)))  -- returns_3
+    (λ c. search rules)  -- overflow_add-result
+    (λ c. search rules)  -- shape_of-out
+    (λ c. search (finished, all_written)))  -- returns

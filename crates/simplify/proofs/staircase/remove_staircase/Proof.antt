@@ -34,9 +34,9 @@ remove_staircase_spec =
     tie.close
     (tie.spec
     (λ c κs. search laws)  -- judge-requires
-    (λ c. search laws)  -- enum-known-refusal
-    (λ c. search laws)  -- enum-told
-    (λ c κs. search laws)  -- keep-outward-requires
-    (λ c. search laws)  -- returns
-    (λ c. search laws)  -- same-length
-    (λ c. search laws))  -- returns_2
+    (λ c. search laws)  -- enum_known-refusal
+    (λ c. search laws)  -- enum_told-1
+    (λ c κs. search laws)  -- keep_outward-requires
+    (λ c. search laws)  -- returns-in-Refused
+    (λ c. search laws)  -- shape_of-out
+    (λ c. search laws))  -- returns-in-Fine

@@ -6,7 +6,7 @@ use native.Mathlib.Nat.{zero-lt-suc}
 use native.Mathlib.Omega.{arith}
 use lib.IntN.{ℤ, pos, negsuc}
 use lib.Signed.{lt_z}
-use borrow.Author.Rules.{rules, zero≤}
+use borrow.Author.Rules.{rules}
 use borrow.Author.Tests.{lt-ltb, le-ltb, ne_eqb}
 use Rattle.util.proofs.ByBits.{area_by_bits}
 use Rattle.simplify.specs.Staircase.{outwards}
@@ -23,7 +23,7 @@ above (negsuc n) = rw (ne_eqb (suc n) 0 (not_zero n))
 
 below : (area : ℤ) → lt_z area (pos 0) ≡ outwards false area
 below (pos zero) = refl
-below (pos (suc n)) = rw (le-ltb (suc n) 0 zero≤, lt-ltb 0 (suc n) (zero-lt-suc n), ne_eqb (suc n) 0 (not_zero n))
+below (pos (suc n)) = rw (le-ltb (suc n) 0 (omega arith), lt-ltb 0 (suc n) (zero-lt-suc n), ne_eqb (suc n) 0 (not_zero n))
 below (negsuc n) = rw (ne_eqb (suc n) 0 (not_zero n))
 
 module _ (clockwise : Bool) (z area : ℤ) (e : z ≡ area) where
@@ -39,10 +39,10 @@ pub outwards_spec : {M : Type 1} → statement M
 outwards_spec =
     tie.close
     (tie.spec
-    (λ c κs. search laws)  -- difference-requires
-    (λ c κs. search laws)  -- difference-requires-2
-    (λ c κs. search laws)  -- difference-requires-3
-    (λ c κs. search laws)  -- difference-requires-4
-    (λ c κs. search laws)  -- cross-requires
-    (λ c. search laws)  -- returns
-    (λ c. search laws))  -- returns_2
+    (λ c κs. search laws)  -- difference-x1-requires
+    (λ c κs. search laws)  -- difference-y1-requires
+    (λ c κs. search laws)  -- difference-x2-requires
+    (λ c κs. search laws)  -- difference-y2-requires
+    (λ c κs. search laws)  -- cross-area-requires
+    (λ c. search laws)  -- returns-then-clockwise
+    (λ c. search laws))  -- returns

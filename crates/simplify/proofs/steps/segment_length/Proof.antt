@@ -29,5 +29,5 @@ segment_length_spec =
     (λ c κs. search laws)  -- size-requires
     (λ c κs. search laws)  -- difference-requires-2
     (λ c κs. search laws)  -- size-requires-2
-    (λ c. search laws)  -- add-result
+    (λ c. search laws)  -- overflow_add-result
     (λ c. search laws))  -- returns

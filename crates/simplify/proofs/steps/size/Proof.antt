@@ -59,8 +59,8 @@ pub size_spec : {M : Type 1} → statement M
 size_spec =
     tie.close
     (tie.spec
-    (λ c. search laws)  -- sub-result
-    (λ c. search laws)  -- cast-result
-    (λ c. search laws)  -- returns
-    (λ c. search laws)  -- cast-result-2
-    (λ c. search laws))  -- returns_2
+    (λ c. search laws)  -- overflow_sub-result
+    (λ c. search laws)  -- overflow_cast-result
+    (λ c. search laws)  -- returns-then-d-lt0
+    (λ c. search laws)  -- overflow_cast-result-2
+    (λ c. search laws))  -- returns

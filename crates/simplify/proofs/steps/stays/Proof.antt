@@ -27,10 +27,10 @@ pub stays_spec : {M : Type 1} → statement M
 stays_spec =
     tie.close
     (tie.spec
-    (λ c κs. search laws)  -- segment-length-requires
+    (λ c κs. search laws)  -- segment_length-requires
     (λ c κs. search laws)  -- outwards-requires
-    (λ c. search laws)  -- returns
-    (λ c κs. search laws)  -- segment-length-requires-2
-    (λ c κs. search laws)  -- outwards-requires-2
-    (λ c. search laws)  -- returns_2
-    (λ c. search laws))  -- returns_3
+    (λ c. search laws)  -- returns-then-segment_length-eq1
+    (λ c κs. search laws)  -- segment_length-requires-2
+    (λ c κs. search laws)  -- outwards-requires-then-segment_length-eq1-2
+    (λ c. search laws)  -- returns-then-segment_length-eq1-2
+    (λ c. search laws))  -- returns

@@ -17,6 +17,6 @@ pub sq_spec : {M : Type 1} → statement M
 sq_spec =
     tie.close
     (tie.spec
-    (λ c. search laws)  -- mul-result
-    (λ c. search laws)  -- int-to-float-result
+    (λ c. search laws)  -- overflow_mul-result
+    (λ c. search laws)  -- int_to_float-result
     (λ c. simp (to_z-of_z, c.before.ranges.d, fits c.before)))  -- returns

@@ -10,5 +10,5 @@ pub difference_spec : {M : Type 1} → statement M
 difference_spec =
     tie.close
     (tie.spec
-    (λ c. search laws)  -- sub-result
+    (λ c. search laws)  -- overflow_sub-result
     (λ c. search laws))  -- returns

@@ -21,5 +21,5 @@ pub are_spec : {M : Type 1} → statement M
 are_spec =
     tie.close
     (tie.spec
-    (λ c. search laws)  -- returns
-    (λ c. search laws))  -- returns_2
+    (λ c. search laws)  -- returns-then-a-b
+    (λ c. search laws))  -- returns-else-a-b

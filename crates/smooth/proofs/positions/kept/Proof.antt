@@ -23,6 +23,6 @@ pub kept_spec : {M : Type 1} → statement M
 kept_spec =
     tie.close
     (tie.spec
-    (λ c. search laws)  -- shared-slice-read-if1
-    (λ c. search laws)  -- returns
-    (λ c. search laws))  -- returns_2
+    (λ c. search laws)  -- bounds-corners-at
+    (λ c. search laws)  -- returns-then-corners-at-eq1
+    (λ c. search laws))  -- returns-else-corners-at-eq1

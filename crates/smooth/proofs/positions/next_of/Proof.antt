@@ -31,8 +31,8 @@ pub next_of_spec : {M : Type 1} → statement M
 next_of_spec =
     tie.close
     (tie.spec
-    (λ c. search laws)  -- add-if1
-    (λ c. search laws)  -- add-result
-    (λ c. search laws)  -- returns
-    (λ c. search laws)  -- returns_2
-    (λ c. search laws))  -- returns_3
+    (λ c. search laws)  -- overflow_add-j
+    (λ c. search laws)  -- overflow_add-result
+    (λ c. search laws)  -- returns-then-j-m
+    (λ c. search laws)  -- returns-then-closed
+    (λ c. search laws))  -- returns-else-closed

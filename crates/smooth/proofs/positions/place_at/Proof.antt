@@ -19,11 +19,11 @@ pub place_at_spec : {M : Type 1} → statement M
 place_at_spec =
     tie.close
     (tie.spec
-    (λ c. search laws)  -- mul-t3
-    (λ c. search laws)  -- mul-t4
-    (λ c. search laws)  -- shared-slice-read-t6
-    (λ c. search laws)  -- mul-t7
-    (λ c. search laws)  -- add-t8
-    (λ c. search laws)  -- mul-t9
-    (λ c. search laws)  -- shared-slice-read-t11
+    (λ c. search laws)  -- overflow_mul-result
+    (λ c. search laws)  -- offset_bounds-points-k
+    (λ c. search laws)  -- bounds-points-k
+    (λ c. search laws)  -- overflow_mul-result-2
+    (λ c. search laws)  -- overflow_add-result
+    (λ c. search laws)  -- offset_bounds-points-k-2
+    (λ c. search laws)  -- bounds-points-k-2
     (λ c. search laws))  -- returns

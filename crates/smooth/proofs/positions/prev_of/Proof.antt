@@ -31,8 +31,8 @@ pub prev_of_spec : {M : Type 1} → statement M
 prev_of_spec =
     tie.close
     (tie.spec
-    (λ c. search laws)  -- sub-result
-    (λ c. search laws)  -- returns
-    (λ c. search laws)  -- sub-result-2
-    (λ c. search laws)  -- returns_2
-    (λ c. search laws))  -- returns_3
+    (λ c. search laws)  -- overflow_sub-result
+    (λ c. search laws)  -- returns-then-i-ne0
+    (λ c. search laws)  -- overflow_sub-result-then-closed
+    (λ c. search laws)  -- returns-then-closed
+    (λ c. search laws))  -- returns-else-closed

@@ -13,11 +13,11 @@ use Rattle.smooth.specs.Calls.{is_flag}
 use Rattle.smooth.proofs.refusals.all_flags.Statement.{statement}
 use Rattle.smooth.proofs.refusals.all_flags.Tie as tie
 
-abbrev invariant-loop : tie.invariant-loop
-invariant-loop corners i₀ i = (i ≤ length corners) × (every is_flag corners ≡ every is_flag (drop i corners))
+abbrev invariant-loop-i : tie.invariant-loop-i
+invariant-loop-i corners i₀ i = (i ≤ length corners) × (every is_flag corners ≡ every is_flag (drop i corners))
 
-abbrev decreases-loop : tie.decreases-loop
-decreases-loop corners i₀ i = length corners - i
+abbrev decreases-loop-i : tie.decreases-loop-i
+decreases-loop-i corners i₀ i = length corners - i
 
 module _ (corners : List ℕ) (i : ℕ) (inv : every is_flag corners ≡ every is_flag (drop i corners)) where
   module _ (r : Bool) (says : r ≡ is_flag (get_or corners i 0)) (h : i < length corners) where
@@ -39,13 +39,13 @@ pub all_flags_spec : {M : Type 1} → statement M
 all_flags_spec =
     tie.close
     (tie.spec
-    invariant-loop
-    decreases-loop
-    (λ c. search laws)  -- loop-holds
-    (λ c. search laws)  -- shared-slice-read-is-flag
-    (λ c κs. search laws)  -- is-flag-requires
-    (λ c. search laws)  -- returns
-    (λ c. search laws)  -- add-i
-    (λ c. search laws)  -- loop-less
-    (λ c. search laws)  -- loop-again
-    (λ c. search laws))  -- returns_2
+    invariant-loop-i
+    decreases-loop-i
+    (λ c. search laws)  -- loop-i-init
+    (λ c. search laws)  -- bounds-corners-i
+    (λ c κs. search laws)  -- is_flag-requires
+    (λ c. search laws)  -- returns-then-not-is_flag
+    (λ c. search laws)  -- overflow_add-i
+    (λ c. search laws)  -- loop-i-smaller
+    (λ c. search laws)  -- loop-i-preserved
+    (λ c. search laws))  -- returns

@@ -24,6 +24,6 @@ pub bad_flags_spec : {M : Type 1} → statement M
 bad_flags_spec =
     tie.close
     (tie.spec
-    (λ c. search laws)  -- returns
-    (λ c κs. search laws)  -- all-flags-requires
-    (λ c. search laws))  -- returns_2
+    (λ c. search laws)  -- returns-then-corners-m
+    (λ c κs. search laws)  -- all_flags-requires
+    (λ c. search laws))  -- returns

@@ -25,6 +25,6 @@ bad_settings_spec =
     tie.close
     (tie.spec
     (λ c κs. search laws)  -- within-requires
-    (λ c. search laws)  -- returns
+    (λ c. search laws)  -- returns-then-not-within
     (λ c κs. search laws)  -- within-requires-2
-    (λ c. search laws))  -- returns_2
+    (λ c. search laws))  -- returns

@@ -47,12 +47,12 @@ pub judge_spec : {M : Type 1} → statement M
 judge_spec =
     tie.close
     (tie.spec
-    (λ c κs. search laws)  -- too-many-requires
-    (λ c. search laws)  -- returns
-    (λ c κs. search laws)  -- bad-points-f64-requires
-    (λ c. search laws)  -- returns_2
-    (λ c κs. search laws)  -- too-few-requires
-    (λ c. search laws)  -- returns_3
+    (λ c κs. search laws)  -- too_many-requires
+    (λ c. search laws)  -- returns-then-too_many
+    (λ c κs. search laws)  -- bad_points_f64-requires
+    (λ c. search laws)  -- returns-then-bad_points_f64
+    (λ c κs. search laws)  -- too_few-requires
+    (λ c. search laws)  -- returns-then-too_few
     (λ c κs. search laws)  -- seen-requires
-    (λ c κs. search laws)  -- judge-rest-requires
-    (λ c. search laws))  -- returns-4
+    (λ c κs. search laws)  -- judge_rest-requires
+    (λ c. search laws))  -- returns

@@ -34,10 +34,10 @@ pub judge_rest_spec : {M : Type 1} → statement M
 judge_rest_spec =
     tie.close
     (tie.spec
-    (λ c κs. search laws)  -- bad-flags-requires
-    (λ c. search laws)  -- returns
-    (λ c κs. search laws)  -- bad-settings-requires
-    (λ c. search laws)  -- returns_2
+    (λ c κs. search laws)  -- bad_flags-requires
+    (λ c. search laws)  -- returns-then-bad_flags
+    (λ c κs. search laws)  -- bad_settings-requires
+    (λ c. search laws)  -- returns-then-bad_settings
     (λ c κs. search laws)  -- short-requires
-    (λ c. search laws)  -- returns_3
-    (λ c. search laws))  -- returns-4
+    (λ c. search laws)  -- returns-then-short
+    (λ c. search laws))  -- returns

@@ -26,8 +26,8 @@ pub short_spec : {M : Type 1} → statement M
 short_spec =
     tie.close
     (tie.spec
-    (λ c. search laws)  -- returns
-    (λ c. search laws)  -- mul-places
-    (λ c. search laws)  -- sub-places
-    (λ c. search laws)  -- returns_2
-    (λ c. search laws))  -- returns_3
+    (λ c. search laws)  -- returns-then-n-eq0
+    (λ c. search laws)  -- overflow_mul-places
+    (λ c. search laws)  -- overflow_sub-places
+    (λ c. search laws)  -- returns-then-out-places
+    (λ c. search laws))  -- returns

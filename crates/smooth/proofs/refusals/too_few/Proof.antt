@@ -10,5 +10,5 @@ pub too_few_spec : {M : Type 1} → statement M
 too_few_spec =
     tie.close
     (tie.spec
-    (λ c. search laws)  -- returns
-    (λ c. search laws))  -- returns_2
+    (λ c. search laws)  -- returns-then-closed
+    (λ c. search laws))  -- returns-else-closed

@@ -27,10 +27,10 @@ pub new_point_spec : {M : Type 1} → statement M
 new_point_spec =
     tie.close
     (tie.spec
-    (λ c κs. search laws)  -- middle-requires
-    (λ c κs. search laws)  -- middle-requires-2
-    (λ c κs. search laws)  -- length-requires
-    (λ c. search laws)  -- returns
+    (λ c κs. search laws)  -- middle-out-requires
+    (λ c κs. search laws)  -- middle-inner-requires
+    (λ c κs. search laws)  -- length-norm-requires
+    (λ c. search laws)  -- returns-then-magnitude
     (λ c κs. search laws)  -- outset-requires
     (λ c κs. search laws)  -- outset-requires-2
-    (λ c. search laws))  -- returns_2
+    (λ c. search laws))  -- returns

@@ -20,6 +20,6 @@ pub placed_spec : {M : Type 1} → statement M
 placed_spec =
     tie.close
     (tie.spec
-    (λ c κs. search laws)  -- new-point-requires
+    (λ c κs. search laws)  -- new_point-new-requires
     (λ c κs. search laws)  -- settled-requires
     (λ c. search laws))  -- returns

@@ -24,6 +24,6 @@ settled_spec =
     tie.close
     (tie.spec
     (λ c κs. search laws)  -- distance-requires
-    (λ c. search laws)  -- returns
+    (λ c. search laws)  -- returns-then-segment_length-distance
     (λ c κs. search laws)  -- distance-requires-2
-    (λ c. search laws))  -- returns_2
+    (λ c. search laws))  -- returns

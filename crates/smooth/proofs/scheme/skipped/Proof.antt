@@ -28,11 +28,11 @@ pub skipped_spec : {M : Type 1} → statement M
 skipped_spec =
     tie.close
     (tie.spec
+    (λ c κs. search laws)  -- distance-curr-requires
+    (λ c. search laws)  -- returns-then-curr-segment_length
     (λ c κs. search laws)  -- distance-requires
-    (λ c. search laws)  -- returns
+    (λ c κs. search laws)  -- is_twice-requires
+    (λ c. search laws)  -- returns-then-is_twice
     (λ c κs. search laws)  -- distance-requires-2
-    (λ c κs. search laws)  -- is-twice-requires
-    (λ c. search laws)  -- returns_2
-    (λ c κs. search laws)  -- distance-requires-3
-    (λ c κs. search laws)  -- is-twice-requires-2
-    (λ c. search laws))  -- returns_3
+    (λ c κs. search laws)  -- is_twice-requires-2
+    (λ c. search laws))  -- returns

@@ -33,10 +33,10 @@ between_spec =
     tie.close
     (tie.spec
     (λ c κs. search laws)  -- are-requires
-    (λ c. search laws)  -- returns
-    (λ c κs. search laws)  -- place-at-requires
-    (λ c κs. search laws)  -- place-at-requires-2
-    (λ c κs. search laws)  -- place-at-requires-3
-    (λ c κs. search laws)  -- place-at-requires-4
+    (λ c. search laws)  -- returns-then-are
+    (λ c κs. search laws)  -- place_at-p-requires
+    (λ c κs. search laws)  -- place_at-q-requires
+    (λ c κs. search laws)  -- place_at-requires
+    (λ c κs. search laws)  -- place_at-requires-2
     (λ c κs. search laws)  -- placed-requires
-    (λ c. search laws))  -- returns_2
+    (λ c. search laws))  -- returns

@@ -48,11 +48,11 @@ pub enter_spec : {M : Type 1} → statement M
 enter_spec =
     tie.close
     (tie.spec
-    (λ c κs. search laws)  -- prev-of-requires
-    (λ c κs. search laws)  -- next-of-requires
-    (λ c κs. search laws)  -- is-skipped-requires
-    (λ c. search laws)  -- returns
+    (λ c κs. search laws)  -- prev_of-prev-requires
+    (λ c κs. search laws)  -- next_of-next-requires
+    (λ c κs. search laws)  -- is_skipped-requires
+    (λ c. search laws)  -- returns-then-is_skipped
     (λ c κs. search laws)  -- kept-requires
     (λ c κs. search laws)  -- kept-requires-2
     (λ c κs. search laws)  -- between-requires
-    (λ c. search laws))  -- returns_2
+    (λ c. search laws))  -- returns

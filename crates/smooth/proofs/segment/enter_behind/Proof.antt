@@ -55,10 +55,10 @@ pub enter_behind_spec : {M : Type 1} → statement M
 enter_behind_spec =
     tie.close
     (tie.spec
-    (λ c. search laws)  -- add-if1
-    (λ c. search laws)  -- add-enter
+    (λ c. search laws)  -- overflow_add-i
+    (λ c. search laws)  -- overflow_add-i-then-i-m
     (λ c κs. search laws)  -- enter-requires
-    (λ c. search laws)  -- returns
-    (λ c κs. search laws)  -- enter-requires-2
-    (λ c. search laws)  -- returns_2
-    (λ c. search laws))  -- returns_3
+    (λ c. search laws)  -- returns-then-i-m
+    (λ c κs. search laws)  -- enter-requires-then-closed
+    (λ c. search laws)  -- returns-then-closed
+    (λ c. search laws))  -- returns

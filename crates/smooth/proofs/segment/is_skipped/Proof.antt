@@ -22,9 +22,9 @@ pub is_skipped_spec : {M : Type 1} → statement M
 is_skipped_spec =
     tie.close
     (tie.spec
-    (λ c κs. search laws)  -- place-at-requires
-    (λ c κs. search laws)  -- place-at-requires-2
-    (λ c κs. search laws)  -- place-at-requires-3
-    (λ c κs. search laws)  -- place-at-requires-4
+    (λ c κs. search laws)  -- place_at-p-requires
+    (λ c κs. search laws)  -- place_at-q-requires
+    (λ c κs. search laws)  -- place_at-requires
+    (λ c κs. search laws)  -- place_at-requires-2
     (λ c κs. search laws)  -- skipped-requires
     (λ c. search laws))  -- returns

@@ -21,19 +21,19 @@ pub copy_spec : {M : Type 1} → statement M
 copy_spec =
     tie.close
     (tie.spec
-    (λ c. search laws)  -- mul-x
-    (λ c. search laws)  -- mul-x-2
-    (λ c. search laws)  -- shared-slice-read-x
-    (λ c. search laws)  -- mul-y
-    (λ c. search laws)  -- add-y
-    (λ c. search laws)  -- mul-y-2
-    (λ c. search laws)  -- shared-slice-read-y
-    (λ c. search laws)  -- mul-out
-    (λ c. search laws)  -- mul-out-2
-    (λ c. search laws)  -- slice-write-out
-    (λ c. search laws)  -- mul-out-3
-    (λ c. search laws)  -- add-out
-    (λ c. search laws)  -- mul-out-4
-    (λ c. search laws)  -- slice-write-out-2
-    (λ c. search laws)  -- same-length
+    (λ c. search laws)  -- overflow_mul-x
+    (λ c. search laws)  -- offset_bounds-points-i
+    (λ c. search laws)  -- bounds-points-i
+    (λ c. search laws)  -- overflow_mul-y
+    (λ c. search laws)  -- overflow_add-y
+    (λ c. search laws)  -- offset_bounds-points-i-2
+    (λ c. search laws)  -- bounds-points-i-2
+    (λ c. search laws)  -- overflow_mul-out
+    (λ c. search laws)  -- offset_bounds-out-k
+    (λ c. search laws)  -- bounds-out-k
+    (λ c. search laws)  -- overflow_mul-out-2
+    (λ c. search laws)  -- overflow_add-out
+    (λ c. search laws)  -- offset_bounds-out-k-2
+    (λ c. search laws)  -- bounds-out-k-2
+    (λ c. search laws)  -- shape_of-out
     (λ c. search laws))  -- returns

@@ -10,14 +10,14 @@ pub put_spec : {M : Type 1} → statement M
 put_spec =
     tie.close
     (tie.spec
-    (λ c. search laws)  -- mul-out
-    (λ c. search laws)  -- mul-out-2
-    (λ c. search laws)  -- slice-write-out
-    (λ c. search laws)  -- mul-out-3
-    (λ c. search laws)  -- add-out
-    (λ c. search laws)  -- mul-out-4
-    (λ c. search laws)  -- slice-write-out-2
-    (λ c. search laws)  -- slice-write-flags
-    (λ c. search laws)  -- same-length
-    (λ c. search laws)  -- same-length-2
+    (λ c. search laws)  -- overflow_mul-out
+    (λ c. search laws)  -- offset_bounds-out-k
+    (λ c. search laws)  -- bounds-out-k
+    (λ c. search laws)  -- overflow_mul-out-2
+    (λ c. search laws)  -- overflow_add-out
+    (λ c. search laws)  -- offset_bounds-out-k-2
+    (λ c. search laws)  -- bounds-out-k-2
+    (λ c. search laws)  -- bounds-flags-k
+    (λ c. search laws)  -- shape_of-out
+    (λ c. search laws)  -- shape_of-flags
     (λ c. search laws))  -- returns

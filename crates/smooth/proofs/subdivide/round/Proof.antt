@@ -18,12 +18,12 @@ use Rattle.smooth.proofs.SoFar.{SoFar, begun, few, turned, ended, last_fits, clo
 use Rattle.smooth.proofs.subdivide.round.Statement.{statement}
 use Rattle.smooth.proofs.subdivide.round.Tie as tie
 
-abbrev invariant-loop : tie.invariant-loop
-invariant-loop points corners settings closed out₀ flags₀ finished₀ k₀ i₀ out flags finished k i =
+abbrev invariant-loop-i : tie.invariant-loop-i
+invariant-loop-i points corners settings closed out₀ flags₀ finished₀ k₀ i₀ out flags finished k i =
     (i ≤ length corners) × (length out ≡ length out₀) × (length flags ≡ length flags₀) × SoFar points corners settings closed (length corners) out₀ flags₀ i k finished out flags
 
-abbrev decreases-loop : tie.decreases-loop
-decreases-loop points corners settings closed out₀ flags₀ finished₀ k₀ i₀ out flags finished k i = length corners - i
+abbrev decreases-loop-i : tie.decreases-loop-i
+decreases-loop-i points corners settings closed out₀ flags₀ finished₀ k₀ i₀ out flags finished k i = length corners - i
 
 -- the room is that of the start
 module _ (closed : Bool) (m : ℕ) where
@@ -47,18 +47,18 @@ pub round_spec : {M : Type 1} → statement M
 round_spec =
     tie.close
     (tie.spec
-    invariant-loop
-    decreases-loop
-    (λ c. search laws)  -- loop-holds
-    (λ c κs. search laws)  -- turn-requires
-    (λ c. search laws)  -- add-i
-    (λ c. search laws)  -- loop-less
-    (λ c. search laws)  -- loop-again
+    invariant-loop-i
+    decreases-loop-i
+    (λ c. search laws)  -- loop-i-init
+    (λ c κs. search laws)  -- turn-t-requires
+    (λ c. search laws)  -- overflow_add-i
+    (λ c. search laws)  -- loop-i-smaller
+    (λ c. search laws)  -- loop-i-preserved
     (λ c κs. search laws)  -- copy-requires
-    (λ c. search laws)  -- add-t22
-    (λ c. search laws)  -- same-length
-    (λ c. search laws)  -- same-length-2
-    (λ c. search laws)  -- returns
-    (λ c. search laws)  -- same-length-3
-    (λ c. search laws)  -- same-length-4
-    (λ c. search laws))  -- returns_2
+    (λ c. search laws)  -- overflow_add-result
+    (λ c. search laws)  -- shape_of-out-then-closed
+    (λ c. search laws)  -- shape_of-flags-then-closed
+    (λ c. search laws)  -- returns-then-closed
+    (λ c. search laws)  -- shape_of-out
+    (λ c. search laws)  -- shape_of-flags
+    (λ c. search laws))  -- returns

@@ -61,18 +61,18 @@ turn_spec =
     tie.close
     (tie.spec
     (λ c κs. search laws)  -- copy-requires
-    (λ c. search laws)  -- shared-slice-read-flags
-    (λ c. search laws)  -- slice-write-flags
-    (λ c κs. search laws)  -- enter-behind-requires
-    (λ c. search laws)  -- enum-told
-    (λ c. search laws)  -- add-t21
-    (λ c. search laws)  -- enum-known-p
-    (λ c. search laws)  -- add-put
+    (λ c. search laws)  -- bounds-corners-i
+    (λ c. search laws)  -- bounds-flags-k
+    (λ c κs. search laws)  -- enter_behind-requires
+    (λ c. search laws)  -- enum_told-1
+    (λ c. search laws)  -- overflow_add-result
+    (λ c. search laws)  -- enum_known-p
+    (λ c. search laws)  -- overflow_add-k
     (λ c κs. (search laws, search laws))  -- put-requires
-    (λ c. search laws)  -- add-t23
-    (λ c. search laws)  -- same-length
-    (λ c. search laws)  -- same-length-2
-    (λ c. search laws)  -- returns
-    (λ c. search laws)  -- same-length-3
-    (λ c. search laws)  -- same-length-4
-    (λ c. search laws))  -- returns_2
+    (λ c. search laws)  -- overflow_add-result-in-Point
+    (λ c. search laws)  -- shape_of-out-in-Nothing
+    (λ c. search laws)  -- shape_of-flags-in-Nothing
+    (λ c. search laws)  -- returns-in-Nothing
+    (λ c. search laws)  -- shape_of-out-in-Point
+    (λ c. search laws)  -- shape_of-flags-in-Point
+    (λ c. search laws))  -- returns-in-Point

@@ -10,20 +10,20 @@ pub put_crossing_spec : {M : Type 1} → statement M
 put_crossing_spec =
     tie.close
     (tie.spec
-    (λ c. search rules)  -- enum-told
-    (λ c. search rules)  -- enum-known-found
-    (λ c. search rules)  -- slice-write-values
-    (λ c. simp length-set (omega arith))  -- slice-write-values-2
-    (λ c. search rules)  -- enum-known-found-2
-    (λ c. search rules)  -- slice-write-values-3
-    (λ c. simp length-set (omega arith))  -- slice-write-values-4
-    (λ c. simp length-set (omega arith))  -- slice-write-values-5
-    (λ c. search rules)  -- slice-write-values-6
-    (λ c. search rules)  -- enum-known-found-3
+    (λ c. search rules)  -- enum_told-1
+    (λ c. search rules)  -- enum_known-found
+    (λ c. search rules)  -- bounds-values-0
+    (λ c. simp length-set (omega arith))  -- bounds-values-1
+    (λ c. search rules)  -- enum_known-found-in-Cross-1
+    (λ c. search rules)  -- bounds-values-0-in-Cross
+    (λ c. simp length-set (omega arith))  -- bounds-values-1-in-Cross
+    (λ c. simp length-set (omega arith))  -- bounds-values-2
+    (λ c. search rules)  -- bounds-values-3
+    (λ c. search rules)  -- enum_known-found-in-Refused-1
     (λ c κs. search rules)  -- number-requires
-    (λ c. search values)  -- returns
-    (λ c. search rules)  -- same-length
-    (λ c. search values)  -- returns_2
-    (λ c. search rules)  -- same-length-2
-    (λ c. search values)  -- returns_3
-    (λ c. search values))  -- returns-4
+    (λ c. search values)  -- returns-in-Parallel
+    (λ c. search rules)  -- shape_of-values-in-Coincide
+    (λ c. search values)  -- returns-in-Coincide
+    (λ c. search rules)  -- shape_of-values-in-Cross
+    (λ c. search values)  -- returns-in-Cross
+    (λ c. search values))  -- returns-in-Refused

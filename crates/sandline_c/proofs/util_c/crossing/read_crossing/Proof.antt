@@ -8,12 +8,12 @@ pub read_crossing_spec : {M : Type 1} → statement M
 read_crossing_spec =
     tie.close
     (tie.spec
-    (λ c. search rules)  -- shared-slice-read-t6
-    (λ c. search rules)  -- shared-slice-read-t8
-    (λ c. search rules)  -- shared-slice-read-t6-2
-    (λ c. search rules)  -- shared-slice-read-t8-2
-    (λ c. search read)  -- returns
-    (λ c. search rules)  -- shared-slice-read-t12
-    (λ c. search rules)  -- shared-slice-read-t14
-    (λ c. search read)  -- returns_2
-    (λ c. search read))  -- returns_3
+    (λ c. search rules)  -- bounds-values-0
+    (λ c. search rules)  -- bounds-values-1
+    (λ c. search rules)  -- bounds-values-2
+    (λ c. search rules)  -- bounds-values-3
+    (λ c. search read)  -- returns-then-values-eq4
+    (λ c. search rules)  -- bounds-values-0-then-values-eq2
+    (λ c. search rules)  -- bounds-values-1-then-values-eq2
+    (λ c. search read)  -- returns-then-values-eq2
+    (λ c. search read))  -- returns

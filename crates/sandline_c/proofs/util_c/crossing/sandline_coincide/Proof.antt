@@ -8,6 +8,6 @@ pub sandline_coincide_spec : {M : Type 1} → statement M
 sandline_coincide_spec =
     tie.close
     (tie.spec
-    (λ c κs. search rules)  -- read-crossing-requires
+    (λ c κs. search rules)  -- read_crossing-requires
     (λ c κs. search rules)  -- coincide-requires
     (λ c. search read))  -- returns

@@ -8,14 +8,14 @@ pub sandline_find_intersection_spec : {M : Type 1} → statement M
 sandline_find_intersection_spec =
     tie.close
     (tie.spec
-    (λ c. search rules)  -- element-copy-out-t12
-    (λ c. search rules)  -- element-copy-out-t15
-    (λ c. search rules)  -- element-copy-out-t12-2
-    (λ c. search rules)  -- element-copy-out-t15-2
-    (λ c. search rules)  -- element-copy-out-t12-3
-    (λ c. search rules)  -- element-copy-out-t15-3
-    (λ c. search rules)  -- element-copy-out-t12-4
-    (λ c. search rules)  -- element-copy-out-t15-4
-    (λ c κs. search rules)  -- find-intersection-requires
-    (λ c κs. search rules)  -- put-crossing-requires
+    (λ c. search rules)  -- bounds-first-0
+    (λ c. search rules)  -- bounds-first-1
+    (λ c. search rules)  -- bounds-first-2
+    (λ c. search rules)  -- bounds-first-3
+    (λ c. search rules)  -- bounds-second-0
+    (λ c. search rules)  -- bounds-second-1
+    (λ c. search rules)  -- bounds-second-2
+    (λ c. search rules)  -- bounds-second-3
+    (λ c κs. search rules)  -- find_intersection-requires
+    (λ c κs. search rules)  -- put_crossing-requires
     (λ c. search values))  -- returns

@@ -8,6 +8,6 @@ pub sandline_outside_spec : {M : Type 1} → statement M
 sandline_outside_spec =
     tie.close
     (tie.spec
-    (λ c κs. search rules)  -- read-crossing-requires
+    (λ c κs. search rules)  -- read_crossing-requires
     (λ c κs. search rules)  -- outside-requires
     (λ c. search read))  -- returns
