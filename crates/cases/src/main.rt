@@ -2,6 +2,7 @@
 // has a module, which answers the calls of that subject. Anything else is a bad line.
 //
 // Nothing is promised of the answers but that they come: the program is safe and ends.
+#![tactic(auto)]
 mod areas_cases;
 mod chart_cases;
 mod forms;
@@ -21,8 +22,9 @@ mod util_cases;
 mod walker_cases;
 mod wide;
 
-use libc::{STDERR_FILENO, STDIN_FILENO, STDOUT_FILENO};
 use lines::Turn;
+use std::io::{Read, Write};
+use std::rt::HostRuntime;
 
 // The longest line, of a zoom of 16,384 values of up to 12 bytes and as many numbers of 17, has less than 480,000 bytes.
 const INPUT: usize = 1048576;
@@ -33,20 +35,20 @@ const OUTPUT: usize = 2097152;
 // up to 12 bytes each and 65,536 marks of 2, is shorter than 1,704,000 bytes, and so fits behind what is kept.
 const FULL: usize = 393152;
 
-fn main() {
+fn main(rt: HostRuntime) {
     let mut input = [0u8; INPUT];
     let mut output = [0u8; OUTPUT];
-    run(&mut input, &mut output);
+    run(&rt, &mut input, &mut output);
 }
 
 // Lends the buffers on as slices.
-fn run(input: &mut [u8; INPUT], output: &mut [u8; OUTPUT]) {
-    answer_all(input, output);
+fn run(rt: &HostRuntime, input: &mut [u8; INPUT], output: &mut [u8; OUTPUT]) {
+    answer_all(rt, input, output);
 }
 
 // Answers each line. A proved loop has to end, and nothing says that an input does: so it counts its
 // turns down, from a number that no run uses up.
-fn answer_all(input: &mut [u8], output: &mut [u8]) {
+fn answer_all(rt: &HostRuntime, input: &mut [u8], output: &mut [u8]) {
     let mut state = lines::begin();
     let mut turns = u64::MAX;
     while 0 < turns {
@@ -57,13 +59,13 @@ fn answer_all(input: &mut [u8], output: &mut [u8]) {
                 state = lines::answered(next, end);
             }
             Turn::Write { bytes, next } => {
-                if !write(output, bytes) {
+                if !write(rt, output, bytes) {
                     return;
                 }
                 state = next;
             }
             Turn::Read { at, next } => {
-                let Got::Bytes(n) = read(&mut input[at..]) else {
+                let Got::Bytes(n) = read(rt, &mut input[at..]) else {
                     return;
                 };
                 state = lines::fed(next, n);
@@ -112,22 +114,28 @@ pub enum Got {
     Failed,
 }
 
-fn read(part: &mut [u8]) -> Got {
-    let got = libc::read(STDIN_FILENO, part);
-    if got < 0 {
-        io::write_all(STDERR_FILENO, b"cases: the input cannot be read\n");
-        return Got::Failed;
+fn read(rt: &HostRuntime, part: &mut [u8]) -> Got {
+    match rt.stdin().read(part) {
+        Ok(n) => Got::Bytes(n),
+        Err(_) => {
+            tell(rt, b"cases: the input cannot be read\n");
+            Got::Failed
+        }
     }
-    Got::Bytes(io::count(got, part))
 }
 
 // Writes the output up to a place, and answers whether all was written.
-fn write(output: &[u8], to: usize) -> bool {
+fn write(rt: &HostRuntime, output: &[u8], to: usize) -> bool {
     if to <= output.len() {
-        if io::write_all(STDOUT_FILENO, &output[0..to]) {
+        if rt.stdout().write_all(&output[0..to]).is_ok() {
             return true;
         }
     }
-    io::write_all(STDERR_FILENO, b"cases: the output cannot be written\n");
+    tell(rt, b"cases: the output cannot be written\n");
     false
+}
+
+// Puts a line on standard error. Where that cannot be written either, nothing is told.
+fn tell(rt: &HostRuntime, line: &[u8]) {
+    let _told = rt.stderr().write_all(line).is_ok();
 }

@@ -159,7 +159,7 @@ module _ (input output : List ℕ) (pieces : List (List ℕ)) (some : 0 < length
     free_bytes = length m.input - m.held
 
     held_fits : m.held ≤ length m.input
-    held_fits = omega (arith, w.free, w.in-size)
+    held_fits = omega (arith, w.free, w.in_size)
 
     -- none is left
     ended_input : m.pieces ≡ [] → Last (fed m [] [])
@@ -167,12 +167,12 @@ module _ (input output : List ℕ) (pieces : List (List ℕ)) (some : 0 < length
         record {
           none_comes = refl;
           live = refl;
-          none_written = w.none-written;
+          none_written = w.none_written;
           holds =
               held_then m.input [] m.held held_fits
               ∙ append-nil (file m)
               ∙ w.holds
-              ∙ sym (take_all (length input) bytes (omega (arith, w.free, w.held-is)))
+              ∙ sym (take_all (length input) bytes (omega (arith, w.free, w.held_is)))
               ∙ ap (λ (ps : List (List ℕ)). take (length input) (flatten ps)) (sym (w.is ∙ ap (λ (ps : List (List ℕ)). w.gone ++ ps) e ∙ append-nil w.gone));
         }
 
@@ -196,7 +196,7 @@ module _ (input output : List ℕ) (pieces : List (List ℕ)) (some : 0 < length
       holds_then = held_then m.input got m.held held_fits ∙ ap (λ (l : List ℕ). l ++ got) w.holds
 
       some_came : ltb 0 (length got) ≡ true
-      some_came = lt-ltb 0 (length got) (omega (arith, got_length, w.free, w.in-size))
+      some_came = lt-ltb 0 (length got) (omega (arith, got_length, w.free, w.in_size))
 
       -- it had room, and there is more
       all_of_it : m.held + length got < length m.input → got ≡ p
@@ -212,7 +212,7 @@ module _ (input output : List ℕ) (pieces : List (List ℕ)) (some : 0 < length
             rest_filled = rw (le-ltb free_bytes (length p) short) rest_filled;
             may_come = rw (some_came, lt-ltb (m.held + length got) (length m.input) h);
             live = refl;
-            none_written = w.none-written;
+            none_written = w.none_written;
             in_size =
                 length-append (take m.held m.input ++ got) (drop (m.held + length got) m.input)
                 ∙ omega (
@@ -220,11 +220,11 @@ module _ (input output : List ℕ) (pieces : List (List ℕ)) (some : 0 < length
                   length-append (take m.held m.input) got,
                   length-take-le m.held m.input held_fits,
                   length-drop (m.held + length got) m.input,
-                  w.in-size,
+                  w.in_size,
                 );
             holds = holds_then ∙ ap (λ (l : List ℕ). bytes ++ l) (all_of_it h) ∙ sym bytes_gone;
-            held_is = omega (arith, w.held-is, ap length bytes_gone, length-append bytes p, ap length (all_of_it h));
-            free = omega (arith, w.in-size);
+            held_is = omega (arith, w.held_is, ap length bytes_gone, length-append bytes p, ap length (all_of_it h));
+            free = omega (arith, w.in_size);
           }
 
       -- the buffer is full
@@ -233,19 +233,19 @@ module _ (input output : List ℕ) (pieces : List (List ℕ)) (some : 0 < length
           record {
             none_comes = rw (some_came, le-ltb (m.held + length got) (length m.input) h);
             live = refl;
-            none_written = w.none-written;
+            none_written = w.none_written;
             holds =
                 holds_then
                 ∙ ap (λ (k : ℕ). bytes ++ take k p) left_is
-                ∙ sym (take_both (length input) bytes p (omega (arith, w.free, w.held-is)))
-                ∙ sym (take-append-le (length input) (bytes ++ p) (flatten ps) (omega (arith, length-append bytes p, got_length, w.held-is, w.in-size)))
+                ∙ sym (take_both (length input) bytes p (omega (arith, w.free, w.held_is)))
+                ∙ sym (take-append-le (length input) (bytes ++ p) (flatten ps) (omega (arith, length-append bytes p, got_length, w.held_is, w.in_size)))
                 ∙ ap (λ (l : List ℕ). take (length input) (l ++ flatten ps)) (sym bytes_gone)
                 ∙ ap (take (length input)) (sym (flatten_both (w.gone ++ (p ∷ [])) ps))
                 ∙ ap (λ (qs : List (List ℕ)). take (length input) (flatten qs)) (sym all_gone);
           }
         where
           left_is : free_bytes ≡ length input - length bytes
-          left_is = omega (arith, w.in-size, w.held-is)
+          left_is = omega (arith, w.in_size, w.held_is)
 
       by_room : State (suc n) next
       by_room = by (ltb (m.held + length got) (length m.input)) refl
@@ -264,33 +264,33 @@ module _ (input output : List ℕ) (pieces : List (List ℕ)) (some : 0 < length
     file_is : file m ≡ take (length input) (flatten (take n pieces))
     file_is =
         w.holds
-        ∙ sym (take_all (length input) bytes (omega (arith, w.free, w.held-is)))
+        ∙ sym (take_all (length input) bytes (omega (arith, w.free, w.held_is)))
         ∙ ap (λ (ps : List (List ℕ)). take (length input) (flatten ps)) (sym (ap (take n) w.is ∙ take_at w.gone m.pieces n w.turns))
 
     taken_is : taken ≡ file m ++ take (length input - length bytes) (flatten m.pieces)
     taken_is =
         ap (λ (ps : List (List ℕ)). take (length input) (flatten ps)) w.is
         ∙ ap (take (length input)) (flatten_both w.gone m.pieces)
-        ∙ take_both (length input) bytes (flatten m.pieces) (omega (arith, w.free, w.held-is))
+        ∙ take_both (length input) bytes (flatten m.pieces) (omega (arith, w.free, w.held_is))
         ∙ ap (λ (l : List ℕ). l ++ take (length input - length bytes) (flatten m.pieces)) (sym w.holds)
 
     -- a whole image is answered
     image : whole (file m) ≡ true → Over (turned m)
     image t =
-        wrote m w.live w.none-written (rw t (never_waits m.more))
+        wrote m w.live w.none_written (rw t (never_waits m.more))
         (sym (ap survey_text taken_is ∙ nothing_follows (file m) (take (length input - length bytes) (flatten m.pieces)) t))
 
     -- without one it reads on
     reads_on : whole (file m) ≡ false → turned m ≡ fed m (came free_bytes m.pieces) (behind free_bytes m.pieces)
-    reads_on t = goes m _ w.live (reads (file m) m.more m.output (rw (w.may-come, t)))
+    reads_on t = goes m _ w.live (reads (file m) m.more m.output (rw (w.may_come, t)))
 
     no_image : whole (file m) ≡ false → State (suc n) (turned m)
-    no_image t = subst (State (suc n)) (sym (reads_on t)) (next_piece m.pieces refl w.rest-filled)
+    no_image t = subst (State (suc n)) (sym (reads_on t)) (next_piece m.pieces refl w.rest_filled)
 
   -- ---- every turn
 
   at_last : (m : Machine) → Last m → Over (turned m)
-  at_last m l = wrote m l.live l.none-written (rw l.none-comes) (ap survey_text l.holds)
+  at_last m l = wrote m l.live l.none_written (rw l.none_comes) (ap survey_text l.holds)
 
   stays_over : (m : Machine) → Over m → Over (turned m)
   stays_over m o = subst Over (sym (rests m o.has_ended)) o
@@ -354,7 +354,7 @@ module _ (input output : List ℕ) (pieces : List (List ℕ)) (some : 0 < length
       ∙ one_more n
       ∙ ap (λ (l : List ℕ). l ++ second) (sym (take_all (length input) first (omega (arith, s.fit)))) in
       record {
-        not_whole = by (take (length input) first) second (ap whole (sym both) ∙ s.not-whole) (whole (take (length input) first)) refl;
+        not_whole = by (take (length input) first) second (ap whole (sym both) ∙ s.not_whole) (whole (take (length input) first)) refl;
         fit = omega (arith, s.fit);
         are = omega (arith, s.are);
       }
@@ -370,7 +370,7 @@ module _ (input output : List ℕ) (pieces : List (List ℕ)) (some : 0 < length
   waits (suc n) s = on (machine n) (waits n (fewer n s))
     where
       on : (m : Machine) → Waiting n m → Waiting (suc n) (turned m)
-      on m w = subst (Waiting (suc n)) (sym (reads_on n m w (rw (file_is n m w) (fewer n s).not_whole))) (by m.pieces refl w.rest-filled)
+      on m w = subst (Waiting (suc n)) (sym (reads_on n m w (rw (file_is n m w) (fewer n s).not_whole))) (by m.pieces refl w.rest_filled)
         where
           by : (q : List (List ℕ)) → m.pieces ≡ q → Filled q →
               Waiting (suc n) (fed m (came (length m.input - m.held) q) (behind (length m.input - m.held) q))
@@ -387,8 +387,8 @@ module _ (input output : List ℕ) (pieces : List (List ℕ)) (some : 0 < length
                 ap length (bytes_gone n m w p ps e f.0 f.1),
                 length-append (flatten w.gone) p,
                 got_length n m w p ps e f.0 f.1,
-                w.held-is,
-                w.in-size,
+                w.held_is,
+                w.in_size,
               ))
 
   -- ---- the claims
@@ -408,8 +408,8 @@ module _ (input output : List ℕ) (pieces : List (List ℕ)) (some : 0 < length
     nothing_is_written_before e = by (state n)
       where
         by : State n (machine n) → (machine n).written ≡ []
-        by (waiting w) = w.none-written
-        by (last l) = l.none-written
+        by (waiting w) = w.none_written
+        by (last l) = l.none_written
         by (over_now o) = absurd (false≢true (sym e ∙ o.has_ended))
 
     over_next : (Waiting n (machine n) → Over (turned (machine n))) → (machine (suc n)).ended ≡ true

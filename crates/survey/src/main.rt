@@ -2,6 +2,7 @@
 // simplified, and the numbers of what is left; one that is no picture, with one line.
 // `step` says what is to be done next; here it is done, and nothing else. A read or a write that fails is
 // told on standard error, and ends the program.
+#![tactic(auto)]
 mod answer;
 mod step;
 
@@ -10,24 +11,25 @@ ghost use Rattle.survey.specs.Survey.{may_come};
 ghost use Rattle.survey.specs.declared.Got.TheVariants.{Held};
 ghost use Rattle.survey.specs.inside.Reading.{Nearer};
 
-use libc::{STDERR_FILENO, STDIN_FILENO, STDOUT_FILENO};
+use std::io::{Read, Write};
+use std::rt::HostRuntime;
 use step::{Turn, step};
 
 // The largest chart has 262,144 pixels: its plain picture fits, with a space before each digit. Three lines
 // have at most 32,768 digits each, and their newlines.
-fn main() {
+fn main(rt: HostRuntime) {
     let mut input = [0u8; 600000];
     let mut output = [0u8; 98307];
-    run(&mut input, &mut output);
+    run(&rt, &mut input, &mut output);
 }
 
 // Lends the buffers on as slices.
-fn run(input: &mut [u8; 600000], output: &mut [u8; 98307]) {
-    survey(input, output);
+fn run(rt: &HostRuntime, input: &mut [u8; 600000], output: &mut [u8; 98307]) {
+    survey(rt, input, output);
 }
 
 // Reads until the step says that the answer is to be written, and writes it.
-fn survey(input: &mut [u8], output: &mut [u8])
+fn survey(rt: &HostRuntime, input: &mut [u8], output: &mut [u8])
     requires { 98307 ≤ length output.old }
 {
     let mut held = 0;
@@ -38,7 +40,7 @@ fn survey(input: &mut [u8], output: &mut [u8])
                 let Got::Held {
                     bytes,
                     more: may_come,
-                } = read(input, held)
+                } = read(rt, input, held)
                 else {
                     return;
                 };
@@ -46,7 +48,7 @@ fn survey(input: &mut [u8], output: &mut [u8])
                 more = may_come;
             }
             Turn::Write(bytes) => {
-                write(&output[0..bytes]);
+                write(rt, &output[0..bytes]);
                 return;
             }
         }
@@ -61,18 +63,18 @@ pub enum Got {
 }
 
 // Reads on behind the bytes that are held.
-fn read(input: &mut [u8], held: usize) -> Got
+fn read(rt: &HostRuntime, input: &mut [u8], held: usize) -> Got
     requires { held ≤ length input.old }
     ensures { Nearer result held (length input.old) }
 {
     let size = input.len();
-    let got = libc::read(STDIN_FILENO, &mut input[held..]);
-    if got < 0 {
-        io::write_all(STDERR_FILENO, b"survey: the input cannot be read\n");
-        return Got::Failed;
+    match rt.stdin().read(&mut input[held..]) {
+        Ok(n) => fed(held, n, size),
+        Err(_) => {
+            tell(rt, b"survey: the input cannot be read\n");
+            Got::Failed
+        }
     }
-    let n = io::count(got, &input[held..]);
-    fed(held, n, size)
 }
 
 // What is held of an input with a buffer of `size` bytes once `n` more came: none means that the input has
@@ -87,8 +89,13 @@ fn fed(held: usize, n: usize, size: usize) -> Got
     }
 }
 
-fn write(part: &[u8]) {
-    if !io::write_all(STDOUT_FILENO, part) {
-        io::write_all(STDERR_FILENO, b"survey: the output cannot be written\n");
+fn write(rt: &HostRuntime, part: &[u8]) {
+    if rt.stdout().write_all(part).is_err() {
+        tell(rt, b"survey: the output cannot be written\n");
     }
+}
+
+// Puts a line on standard error. Where that cannot be written either, nothing is told.
+fn tell(rt: &HostRuntime, line: &[u8]) {
+    let _told = rt.stderr().write_all(line).is_ok();
 }

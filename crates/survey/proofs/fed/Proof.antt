@@ -20,6 +20,6 @@ pub fed_spec : {M : Type 1} → statement M
 fed_spec =
     tie.close
     (tie.spec
-    (λ c. search rules)  -- add-t4
-    (λ c. search rules)  -- add-t6
+    (λ c. search rules)  -- overflow_add-result
+    (λ c. search rules)  -- overflow_add-result-2
     (λ c. (search rules, (search rules, search nearer))))  -- returns

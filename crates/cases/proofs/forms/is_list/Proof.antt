@@ -5,27 +5,27 @@ use borrow.Author.Rules.{rules}
 use Rattle.cases.proofs.forms.is_list.Statement.{statement}
 use Rattle.cases.proofs.forms.is_list.Tie as tie
 
-abbrev invariant-loop : tie.invariant-loop
-invariant-loop word letter n₀ at₀ n at = (at ≤ length word + 1) × (n ≤ at)
+abbrev invariant-loop-at : tie.invariant-loop-at
+invariant-loop-at word letter n₀ at₀ n at = (at ≤ length word + 1) × (n ≤ at)
 
-abbrev decreases-loop : tie.decreases-loop
-decreases-loop word letter n₀ at₀ n at = length word + 1 - at
+abbrev decreases-loop-at : tie.decreases-loop-at
+decreases-loop-at word letter n₀ at₀ n at = length word + 1 - at
 
 pub is_list_spec : {M : Type 1} → statement M
 is_list_spec =
     tie.close
     (tie.spec
-    invariant-loop
-    decreases-loop
-    (λ c κs. search rules)  -- is-dash-requires
-    (λ c. search rules)  -- returns
-    (λ c. search rules)  -- loop-holds
-    (λ c κs. search rules)  -- value-at-requires
-    (λ c. search rules)  -- add-n
-    (λ c. search rules)  -- add-at
-    (λ c. search rules)  -- add-at-2
-    (λ c κs. search rules)  -- is-value-requires
-    (λ c. search rules)  -- returns_2
-    (λ c. search rules)  -- loop-less
-    (λ c. search rules)  -- loop-again
-    (λ c. search rules))  -- returns_3
+    invariant-loop-at
+    decreases-loop-at
+    (λ c κs. search rules)  -- is_dash-requires
+    (λ c. search rules)  -- returns-then-is_dash
+    (λ c. search rules)  -- loop-at-init
+    (λ c κs. search rules)  -- value_at-value-requires
+    (λ c. search rules)  -- overflow_add-n
+    (λ c. search rules)  -- overflow_add-at
+    (λ c. search rules)  -- overflow_add-at-in-loop-at
+    (λ c κs. search rules)  -- is_value-requires
+    (λ c. search rules)  -- returns-then-not-is_value
+    (λ c. search rules)  -- loop-at-smaller
+    (λ c. search rules)  -- loop-at-preserved
+    (λ c. search rules))  -- returns

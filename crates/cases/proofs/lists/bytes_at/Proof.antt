@@ -24,10 +24,10 @@ bytes_at_spec =
     tie.close
     (tie.spec
     (λ c κs. search laws)  -- word-requires
-    (λ c κs. search laws)  -- read-pairs-requires
-    (λ c. search laws)  -- enum-known-n
-    (λ c. search laws)  -- enum-told
-    (λ c. search laws)  -- same-length
-    (λ c. search laws)  -- returns
-    (λ c. search laws)  -- same-length-2
-    (λ c. search laws))  -- returns_2
+    (λ c κs. search laws)  -- read_pairs-requires
+    (λ c. search laws)  -- enum_known-n
+    (λ c. search laws)  -- enum_told-1
+    (λ c. search laws)  -- shape_of-to-in_default
+    (λ c. search laws)  -- returns-in_default
+    (λ c. search laws)  -- shape_of-to
+    (λ c. search laws))  -- returns

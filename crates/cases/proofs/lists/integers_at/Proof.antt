@@ -6,34 +6,34 @@ use borrow.Author.Rules.{rules}
 use Rattle.cases.proofs.lists.integers_at.Statement.{statement}
 use Rattle.cases.proofs.lists.integers_at.Tie as tie
 
-abbrev invariant-loop : tie.invariant-loop
-invariant-loop line k to₀ text n₀ at₀ to n at = (at ≤ length text + 1) × (n ≤ length to₀) × (length to ≡ length to₀)
+abbrev invariant-loop-at : tie.invariant-loop-at
+invariant-loop-at line k to₀ text n₀ at₀ to n at = (at ≤ length text + 1) × (n ≤ length to₀) × (length to ≡ length to₀)
 
-abbrev decreases-loop : tie.decreases-loop
-decreases-loop line k to₀ text n₀ at₀ to n at = length text + 1 - at
+abbrev decreases-loop-at : tie.decreases-loop-at
+decreases-loop-at line k to₀ text n₀ at₀ to n at = length text + 1 - at
 
 pub integers_at_spec : {M : Type 1} → statement M
 integers_at_spec =
     tie.close
     (tie.spec
-    invariant-loop
-    decreases-loop
-    (λ c κs. search rules)  -- word-requires
-    (λ c. search rules)  -- loop-holds
-    (λ c κs. search rules)  -- value-at-requires
-    (λ c κs. search rules)  -- read-integer-requires
-    (λ c. search rules)  -- enum-known-integer
-    (λ c. search rules)  -- enum-told
-    (λ c. search rules)  -- same-length
-    (λ c. search rules)  -- returns
-    (λ c. search rules)  -- same-length-2
-    (λ c. search rules)  -- returns_2
-    (λ c. search rules)  -- mul-integer
-    (λ c. search rules)  -- slice-set-from-integer
-    (λ c. search rules)  -- add-n
-    (λ c. search rules)  -- add-at
-    (λ c. search rules)  -- add-at-2
-    (λ c. search rules)  -- loop-less
-    (λ c. search rules)  -- loop-again
-    (λ c. search rules)  -- same-length-3
-    (λ c. search rules))  -- returns_3
+    invariant-loop-at
+    decreases-loop-at
+    (λ c κs. search rules)  -- word-text-requires
+    (λ c. search rules)  -- loop-at-init
+    (λ c κs. search rules)  -- value_at-value-requires
+    (λ c κs. search rules)  -- read_integer-requires
+    (λ c. search rules)  -- enum_known-integer
+    (λ c. search rules)  -- enum_told-1
+    (λ c. search rules)  -- shape_of-to-in_default
+    (λ c. search rules)  -- returns-in_default
+    (λ c. search rules)  -- shape_of-to-then-to-n
+    (λ c. search rules)  -- returns-then-to-n
+    (λ c. search rules)  -- offset_bounds-to-n
+    (λ c. search rules)  -- bounds-to-n
+    (λ c. search rules)  -- overflow_add-n
+    (λ c. search rules)  -- overflow_add-at
+    (λ c. search rules)  -- overflow_add-at-in-loop-at
+    (λ c. search rules)  -- loop-at-smaller
+    (λ c. search rules)  -- loop-at-preserved
+    (λ c. search rules)  -- shape_of-to
+    (λ c. search rules))  -- returns

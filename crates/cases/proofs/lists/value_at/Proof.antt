@@ -21,8 +21,8 @@ pub value_at_spec : {M : Type 1} → statement M
 value_at_spec =
     tie.close
     (tie.spec
-    (λ c κs. search laws)  -- find-requires
-    (λ c. search laws)  -- sub-result
-    (λ c. search laws)  -- part-result-start
-    (λ c. search laws)  -- part-result-end
+    (λ c κs. search laws)  -- find-end-requires
+    (λ c. search laws)  -- slice_bounds-result-count
+    (λ c. search laws)  -- slice_bounds-result-start
+    (λ c. search laws)  -- slice_bounds-result-end
     (λ c. search laws))  -- returns

@@ -18,8 +18,8 @@ pub put_marked_integer_spec : {M : Type 1} → statement M
 put_marked_integer_spec =
     tie.close
     (tie.spec
-    (λ c. search laws)  -- cast-put-decimal
-    (λ c κs. search laws)  -- put-decimal-requires
-    (λ c κs. search laws)  -- put-byte-requires
-    (λ c. search laws)  -- same-length
+    (λ c. search laws)  -- overflow_cast-n
+    (λ c κs. search laws)  -- put_decimal-end-requires
+    (λ c κs. search laws)  -- put_byte-requires
+    (λ c. search laws)  -- shape_of-out
     (λ c. search laws))  -- returns

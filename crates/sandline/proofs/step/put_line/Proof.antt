@@ -25,7 +25,7 @@ pub put_line_spec : {M : Type 1} → statement M
 put_line_spec =
     tie.close
     (tie.spec
-    (λ c κs. search laws)  -- answer-requires
-    (λ c κs. search laws)  -- put-byte-requires
-    (λ c. search laws)  -- same-length
+    (λ c κs. search laws)  -- answer-end-requires
+    (λ c κs. search laws)  -- put_byte-requires
+    (λ c. search laws)  -- shape_of-output
     (λ c. search laws))  -- returns

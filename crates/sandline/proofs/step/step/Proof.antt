@@ -53,15 +53,15 @@ pub step_spec : {M : Type 1} → statement M
 step_spec =
     tie.close
     (tie.spec
-    (λ c κs. search laws)  -- next-requires
-    (λ c. search laws)  -- enum-known-turn
-    (λ c. search laws)  -- sub-put-line
-    (λ c. search laws)  -- part-put-line-start
-    (λ c. search laws)  -- part-put-line-end
-    (λ c κs. search laws)  -- put-line-requires
+    (λ c κs. search laws)  -- next-turn-requires
+    (λ c. search laws)  -- enum_known-turn
+    (λ c. search laws)  -- slice_bounds-put_line-count
+    (λ c. search laws)  -- slice_bounds-put_line-start
+    (λ c. search laws)  -- slice_bounds-put_line-end
+    (λ c κs. search laws)  -- put_line-end-requires
     (λ c κs. search laws)  -- answered-requires
-    (λ c. search laws)  -- same-length
-    (λ c. search laws)  -- same-length-2
-    (λ c. search laws)  -- returns
-    (λ c. search laws)  -- same-length-3
-    (λ c. search laws))  -- returns_2
+    (λ c. search laws)  -- shape_of-input-in-Line
+    (λ c. search laws)  -- shape_of-output-in-Line
+    (λ c. search laws)  -- returns-in-Line
+    (λ c. search laws)  -- shape_of-input
+    (λ c. search laws))  -- returns

@@ -34,12 +34,12 @@ pub outline_spec : {M : Type 1} → statement M
 outline_spec =
     tie.close
     (tie.spec
-    (λ c κs. search rules)  -- first-start-requires
-    (λ c. search rules)  -- enum-known-start
+    (λ c κs. search rules)  -- first_start-requires
+    (λ c. search rules)  -- enum_known-start
     (λ c κs. search rules)  -- walk-requires
-    (λ c. search rules)  -- enum-told
-    (λ c. search rules)  -- enum-known-refusal
-    (λ c. search rules)  -- same-length
-    (λ c. search walks)  -- returns
-    (λ c. search no_way)  -- returns_2
-    (λ c. search refuses))  -- returns_3
+    (λ c. search rules)  -- enum_told-1
+    (λ c. search rules)  -- enum_known-refusal
+    (λ c. search rules)  -- shape_of-out
+    (λ c. search walks)  -- returns-in-At
+    (λ c. search no_way)  -- returns-in-NoWay
+    (λ c. search refuses))  -- returns-in-Refused

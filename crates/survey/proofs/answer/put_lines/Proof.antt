@@ -64,18 +64,18 @@ pub put_lines_spec : {M : Type 1} → statement M
 put_lines_spec =
     tie.close
     (tie.spec
-    (λ c. search rules)  -- slice-aggregate-outline
-    (λ c κs. search rules)  -- outline-requires
-    (λ c κs. search rules)  -- count-requires
-    (λ c. search laws)  -- mul-values
+    (λ c. search rules)  -- slice_bounds-outline-end
+    (λ c κs. search rules)  -- outline-walked-requires
+    (λ c κs. search rules)  -- count-values-requires
+    (λ c. search laws)  -- overflow_mul-values
     (λ c κs. search rules)  -- number-requires
-    (λ c. search rules)  -- sub-put-points
-    (λ c. search rules)  -- part-put-points-start
-    (λ c. search laws)  -- part-put-points-end
-    (λ c κs. search laws)  -- put-points-requires
-    (λ c. search rules)  -- sub-put-simplified
-    (λ c. search rules)  -- part-put-simplified-start
-    (λ c. search laws)  -- part-put-simplified-end
-    (λ c κs. search laws)  -- put-simplified-requires
-    (λ c. search rules)  -- same-length
+    (λ c. search rules)  -- slice_bounds-put_points-count
+    (λ c. search rules)  -- slice_bounds-put_points-start
+    (λ c. search laws)  -- slice_bounds-put_points-end
+    (λ c κs. search laws)  -- put_points-end-requires
+    (λ c. search rules)  -- slice_bounds-put_simplified-count
+    (λ c. search rules)  -- slice_bounds-put_simplified-start
+    (λ c. search laws)  -- slice_bounds-put_simplified-end
+    (λ c κs. search laws)  -- put_simplified-requires
+    (λ c. search rules)  -- shape_of-output
     (λ c. search three))  -- returns

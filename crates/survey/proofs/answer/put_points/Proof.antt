@@ -24,7 +24,7 @@ pub put_points_spec : {M : Type 1} → statement M
 put_points_spec =
     tie.close
     (tie.spec
-    (λ c κs. search rules)  -- put-points-requires
-    (λ c κs. search rules)  -- put-byte-requires
-    (λ c. search rules)  -- same-length
+    (λ c κs. search rules)  -- put_points-end-requires
+    (λ c κs. search rules)  -- put_byte-requires
+    (λ c. search rules)  -- shape_of-output
     (λ c. search whole))  -- returns

@@ -72,18 +72,18 @@ pub put_simplified_spec : {M : Type 1} → statement M
 put_simplified_spec =
     tie.close
     (tie.spec
-    (λ c. search rules)  -- slice-aggregate-simplify
-    (λ c κs. search rules)  -- simplify-requires
-    (λ c κs. search rules)  -- count-requires
-    (λ c. search laws)  -- mul-values
+    (λ c. search rules)  -- slice_bounds-simplify-end
+    (λ c κs. search rules)  -- simplify-answer-requires
+    (λ c κs. search rules)  -- count-values-requires
+    (λ c. search laws)  -- overflow_mul-values
     (λ c κs. search rules)  -- number-requires
-    (λ c. search rules)  -- sub-put-points
-    (λ c. search rules)  -- part-put-points-start
-    (λ c. search laws)  -- part-put-points-end
-    (λ c κs. search laws)  -- put-points-requires
-    (λ c. search rules)  -- sub-put-numbers
-    (λ c. search rules)  -- part-put-numbers-start
-    (λ c. search laws)  -- part-put-numbers-end
-    (λ c κs. search laws)  -- put-numbers-requires
-    (λ c. search rules)  -- same-length
+    (λ c. search rules)  -- slice_bounds-put_points-count
+    (λ c. search rules)  -- slice_bounds-put_points-start
+    (λ c. search laws)  -- slice_bounds-put_points-end
+    (λ c κs. search laws)  -- put_points-end-requires
+    (λ c. search rules)  -- slice_bounds-put_numbers-count
+    (λ c. search rules)  -- slice_bounds-put_numbers-start
+    (λ c. search laws)  -- slice_bounds-put_numbers-end
+    (λ c κs. search laws)  -- put_numbers-requires
+    (λ c. search rules)  -- shape_of-output
     returns)

@@ -62,22 +62,22 @@ module _ (file : List ℕ) (more : Bool) (output : List ℕ) (p : Picture) (pixe
       record { answer = n; out = last } ≡ put (refused_line (refusal_number r)) output 0 → record { answer = Write n; out = last } ≡ step_of file more output
   refused r n last e m h put_there = answered (Picture.Refused r) n last e (rw m) h put_there
 
-returns : tie.Need-returns
+returns : tie.Need-returns-then-more
 returns c = search waits
 
 pub step_spec : {M : Type 1} → statement M
 step_spec =
     tie.close
     (tie.spec
-    (λ c. search rules)  -- slice-aggregate-read-pbm
-    (λ c κs. search rules)  -- read-pbm-requires
-    (λ c. search rules)  -- enum-known-chart
-    (λ c. search rules)  -- slice-aggregate-put-lines
-    (λ c κs. search rules)  -- put-lines-requires
-    (λ c. search rules)  -- enum-known-refusal
+    (λ c. search rules)  -- slice_bounds-read_pbm-end
+    (λ c κs. search rules)  -- read_pbm-requires
+    (λ c. search rules)  -- enum_known-chart
+    (λ c. search rules)  -- slice_bounds-put_lines-end
+    (λ c κs. search rules)  -- put_lines-requires
+    (λ c. search rules)  -- enum_known-refusal
     returns
-    (λ c κs. search rules)  -- put-refusal-requires
-    (λ c. search rules)  -- same-length
-    (λ c. search read)  -- returns_2
-    (λ c. search rules)  -- same-length-2
-    (λ c. search refused))  -- returns_3
+    (λ c κs. search rules)  -- put_refusal-requires
+    (λ c. search rules)  -- shape_of-output-in-Read
+    (λ c. search read)  -- returns-in-Read
+    (λ c. search rules)  -- shape_of-output-else-more
+    (λ c. search refused))  -- returns-else-more

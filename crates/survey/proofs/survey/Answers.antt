@@ -1,11 +1,5 @@
--- `survey` is safe and ends: what the step asks for lies in its buffers, and each read brings bytes or is the last. Assumes nothing.
-use Prim.Native.Nat.{ℕ, ◌+◌, ◌-◌, ◌≤◌, ◌<◌}
-use mathlib.Core.Bool.{Bool, true, false, not, ◌&&◌}
-use mathlib.Core.List.{List}
-use mathlib.Core.Path.{◌≡◌, refl, sym, ap, subst, ◌∙◌}
-use native.Mathlib.Omega.{arith}
-use lib.ListN.{length}
-use borrow.Author.Rules.{rules}
+-- `survey` lends on what the step asks for, and each read brings bytes or is the last. Assumes nothing.
+use Rattle.std.proofs.Common.{rules, arith, ◌≡◌, ℕ, ◌+◌, ◌-◌, ◌≤◌, ◌<◌, Bool, true, false, not, ◌&&◌, List, length, refl, sym, ap, subst, ◌∙◌}
 use Rattle.laws.proofs.If.{if_cases}
 use Rattle.chart.specs.Pixels.{one}
 use Rattle.survey.specs.Survey.{whole, Step, step_of}
@@ -15,15 +9,7 @@ use Rattle.survey.specs.declared.Got.TheVariants.{Held}
 use Rattle.survey.specs.declared.step.Turn.{Turn}
 use Rattle.survey.specs.declared.step.Turn.TheVariants.{Read, Write}
 use Rattle.survey.proofs.Lines.{survey_short}
-use Rattle.survey.proofs.survey.Statement.{statement}
-use Rattle.survey.proofs.survey.Tie as tie
-
-abbrev invariant-loop : tie.invariant-loop
-invariant-loop input₀ output₀ held₀ more₀ input output held more =
-    (length input ≡ length input₀) × (length output ≡ length output₀) × (held ≤ length input₀)
-
-abbrev decreases-loop : tie.decreases-loop
-decreases-loop input₀ output₀ held₀ more₀ input output held more = length input₀ - held + one more
+use Rattle.survey.proofs.survey.Goals as goal
 
 -- what a step asks for: it reads on only where more may come, and what it writes fits any output
 abbrev Asks : Bool → Turn → Type 0
@@ -59,31 +45,11 @@ module _ (g : Got) (n held : ℕ) (more' : Bool) (first input : List ℕ) (h : N
   less : (more : Bool) → more ≡ true → length first - n + one more' < length first - held + one more
   less more m = rw (m, ← same) nearer.1
 
-pub survey_spec : {M : Type 1} → statement M
-survey_spec =
-    tie.close
-    (tie.spec
-    invariant-loop
-    decreases-loop
-    (λ c. search rules)  -- loop-holds
-    (λ c. search rules)  -- sub-step
-    (λ c. search rules)  -- part-step-start
-    (λ c. search rules)  -- part-step-end
-    (λ c κs. search rules)  -- step-requires
-    (λ c. search rules)  -- enum-told
-    (λ c κs. search rules)  -- read-requires
-    (λ c. search rules)  -- enum-known-bytes
-    (λ c. search rules)  -- enum-told-2
-    (λ c. search rules)  -- same-length
-    (λ c. search rules)  -- same-length-2
-    (λ c. search rules)  -- returns
-    (λ c. search (less, reads_on))  -- loop-less
-    (λ c. (search rules, search rules, search held_fits))  -- loop-again
-    (λ c. search rules)  -- enum-known-bytes-2
-    (λ c. search rules)  -- sub-write
-    (λ c. search rules)  -- part-write-start
-    (λ c. search write_fits)  -- part-write-end
-    (λ c κs. search rules)  -- write-requires
-    (λ c. search rules)  -- same-length-3
-    (λ c. search rules)  -- same-length-4
-    (λ c. search rules))  -- returns_2
+pub loop-input-smaller : goal.loop-input-smaller
+loop-input-smaller c = search (less, reads_on)
+
+pub loop-input-preserved : goal.loop-input-preserved
+loop-input-preserved c = (search rules, search rules, search held_fits)
+
+pub slice_bounds-write-end : goal.slice_bounds-write-end
+slice_bounds-write-end c = search write_fits
