@@ -3,21 +3,20 @@
 use Prim.Native.Nat.{ℕ, ◌+◌, ◌*◌, ◌-◌, ◌<◌, ◌≤◌}
 use mathlib.Core.Bool.{true, false, false≢true}
 use mathlib.Core.List.{List, [], ◌∷◌}
-use mathlib.Core.Path.{◌≡◌, refl, sym, ap, ap₂, subst, ◌∙◌}
+use mathlib.Core.Path.{◌≡◌, refl, sym, ap, subst, ◌∙◌}
 use native.Mathlib.Numerals.{add-one}
 use native.Mathlib.Omega.{arith}
 use lib.Dec.{eqb}
 use lib.IntN.{ℤ, pos, neg_ℤ, nat_abs, ◌+ℤ◌, ◌-ℤ◌}
 use lib.ListN.{length, get_or, drop}
 use lib.Seq.{drop-cons}
-use borrow.Author.Tests.{eq-eqb, ne_eqb, eqb-false}
+use borrow.Author.Tests.{eq-eqb, ne_eqb}
 use Rattle.laws.proofs.Integers.{abs_add_le, abs_sub_le}
 use Rattle.laws.proofs.Ring.{P, N, eq_pn, add_pn, sub_pn, neg_pn}
 use Rattle.point.specs.Limits.{bad_points}
 use Rattle.point.specs.Points.{count, points, point_at}
 use Rattle.point.specs.declared.PointI32.{PointI32}
 use Rattle.point.specs.inside.Near.{Near}
-use Rattle.point.proofs.Flat.{length_points}
 use Rattle.reduce.specs.Kept.{select}
 use Rattle.reduce.proofs.Select.{selected, unselected, no_points}
 use Rattle.areas.specs.Areas.{edge, back_to, twice_area, up_to_kept, gaps, area_of_all, three_areas, ends_kept}

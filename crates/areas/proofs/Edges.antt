@@ -1,8 +1,7 @@
 -- An edge walked back takes away what it added, and an edge from a point to itself adds nothing. Assumes nothing.
-use mathlib.Core.List.{List, []}
 use mathlib.Core.Path.{◌≡◌}
 use native.Mathlib.Omega.{arith}
-use lib.IntN.{ℤ, pos, neg_ℤ, ◌-ℤ◌, ◌*ℤ◌}
+use lib.IntN.{pos, neg_ℤ, ◌*ℤ◌}
 use Rattle.laws.proofs.Ring.{eq_pn, sub_pn, neg_pn}
 use Rattle.point.specs.declared.PointI32.{PointI32}
 use Rattle.areas.specs.Areas.{edge}

@@ -1,31 +1,23 @@
 -- On the way along a list of points: what was added up, and what the points from the i-th on still add, is what the whole list has. Assumes nothing.
-use Prim.Native.Nat.{ℕ, suc, ◌+◌, ◌*◌, ◌-◌, ◌<◌, ◌≤◌}
-use mathlib.Core.Bool.{true, false}
+use Prim.Native.Nat.{ℕ, ◌+◌, ◌*◌, ◌-◌, ◌<◌, ◌≤◌}
+use mathlib.Core.Bool.{false}
 use mathlib.Core.List.{List, [], ◌∷◌}
-use mathlib.Core.Path.{◌≡◌, refl, sym, ap, ap₂, subst, ◌∙◌}
+use mathlib.Core.Path.{◌≡◌, sym, ap, ap₂, subst, ◌∙◌}
 use native.Mathlib.Numerals.{add-one}
 use native.Mathlib.Omega.{arith}
-use lib.Dec.{eqb}
-use lib.IntN.{ℤ, pos, neg_ℤ, nat_abs, ◌+ℤ◌, ◌-ℤ◌, ◌*ℤ◌}
-use lib.ListN.{length, get_or, drop, drop_of_length-le}
+use lib.IntN.{ℤ, pos, nat_abs, ◌+ℤ◌, ◌*ℤ◌}
+use lib.ListN.{drop, drop_of_length-le}
 use lib.Seq.{drop-cons}
-use borrow.Author.Tests.{eq-eqb, ne_eqb}
 use Rattle.laws.proofs.Integers.{abs_add_le, abs_sub_le, abs_mul_le}
-use Rattle.laws.proofs.Ring.{P, N, eq_pn, add_pn, sub_pn, neg_pn}
+use Rattle.laws.proofs.Ring.{eq_pn, add_pn}
 use Rattle.point.specs.Limits.{bad_points}
 use Rattle.point.specs.Points.{count, points, point_at}
 use Rattle.point.specs.declared.PointI32.{PointI32}
 use Rattle.point.specs.inside.Near.{Near}
 use Rattle.point.proofs.Flat.{length_points, points_at}
 use Rattle.point.proofs.Near.{limit_x, limit_y}
-use Rattle.reduce.specs.Kept.{select}
-use Rattle.reduce.proofs.Select.{selected, unselected, marked, unmarked, no_points}
-use Rattle.areas.specs.Areas.{edge, back_to, twice_area, up_to_kept, gaps, area_of_all, three_areas, ends_kept}
-use Rattle.areas.specs.declared.Areas.{Areas}
-use Rattle.areas.specs.inside.Added.{Small, edge_added, chord_added, closing_added}
-use Rattle.areas.proofs.Cuts.{up_to_it, past_it, gap_begins, no_gap_begins, nothing_left, no_gap_left}
-use Rattle.areas.proofs.Edges.{to_itself, walked_back}
-use Rattle.areas.proofs.Ends.{first_kept, last_kept}
+use Rattle.areas.specs.Areas.{edge, back_to, twice_area}
+use Rattle.areas.proofs.Edges.{to_itself}
 
 -- a point of a list that is not refused lies within the limits
 pub near_at : (list : List ℤ) → bad_points list ≡ false → (p : PointI32) (k : ℕ) → p ≡ point_at list k → Near p

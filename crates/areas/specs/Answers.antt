@@ -2,11 +2,8 @@
 -- each of its cases."
 use Rattle.std.specs.Prelude.{ℕ, List, [], ◌∷◌, ℤ}
 use Rattle.point.specs.Refusals.{refusal_number}
-use Rattle.areas.specs.declared.Areas.{Areas}
 use Rattle.areas.specs.declared.Area.{Area}
-use Rattle.areas.specs.declared.Area.TheVariants as Area
 use Rattle.areas.specs.declared.Measured.{Measured}
-use Rattle.areas.specs.declared.Measured.TheVariants as Measured
 
 abbrev pub area_number : Area → ℕ
 area_number (Area.Twice twice) = 0

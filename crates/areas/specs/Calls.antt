@@ -12,7 +12,6 @@ use Rattle.point.specs.declared.refusal.Refusal.TheVariants.{TooMany, BadPoint, 
 use Rattle.split.specs.Tree.{marks_of}
 use Rattle.areas.specs.Areas.{twice_area, three_areas, ends_kept}
 use Rattle.areas.specs.declared.Area.{Area}
-use Rattle.areas.specs.declared.Area.TheVariants as Area
 use Rattle.areas.specs.declared.Measured.{Measured}
 use Rattle.areas.specs.declared.Measured.TheVariants.{Are, Refused}
 

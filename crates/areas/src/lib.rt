@@ -5,6 +5,7 @@
 // Areas are twice what they are on the chart, so that they are whole numbers, and positive where the points go
 // clockwise, y down. A list counts as closed, from its last point to its first.
 #![tactic(auto)]
+
 mod lists;
 mod sums;
 mod totals;

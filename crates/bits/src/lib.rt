@@ -4,6 +4,7 @@
 //
 // Nothing here fails, for any of the 2^64 patterns or any f64.
 #![tactic(auto)]
+
 ghost use Rattle.std.specs.Prelude.{◌≡◌};
 ghost use Rattle.std.specs.Float.{binary64};
 ghost use Rattle.std.specs.Float.Ieee.{to_bits, of_bits};

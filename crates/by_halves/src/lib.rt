@@ -3,6 +3,7 @@
 //
 // Nothing here fails, for any f64.
 #![tactic(auto)]
+
 ghost use Rattle.std.specs.Prelude.{◌≡◌, ◌^◌, ◌<◌, ◌≤◌};
 ghost use Rattle.std.specs.Float.{binary64};
 ghost use Rattle.sqrt.specs.Root.{root_of, root_bits};

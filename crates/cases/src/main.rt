@@ -3,6 +3,7 @@
 //
 // Nothing is promised of the answers but that they come: the program is safe and ends.
 #![tactic(auto)]
+
 mod areas_cases;
 mod chart_cases;
 mod forms;

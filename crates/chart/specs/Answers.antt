@@ -2,9 +2,7 @@
 use Rattle.std.specs.Prelude.{ℕ, List, [], ◌∷◌, ℤ}
 use Rattle.point.specs.Refusals.{refusal_number}
 use Rattle.chart.specs.declared.Cells.{Cells}
-use Rattle.chart.specs.declared.Cells.TheVariants as Cells
 use Rattle.chart.specs.declared.Start.{Start}
-use Rattle.chart.specs.declared.Start.TheVariants as Start
 
 -- ---- the area
 

@@ -7,6 +7,7 @@
 //
 // Each call is total and writes nothing.
 #![tactic(auto)]
+
 mod begin;
 mod counting;
 mod lattice;

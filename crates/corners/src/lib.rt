@@ -4,6 +4,7 @@
 //
 // Lists of points are x, y, x, y; flags are bytes, 1 for a corner and 0 for none.
 #![tactic(auto)]
+
 mod flags;
 mod nearest;
 mod turns;

@@ -13,7 +13,6 @@ use Rattle.chart.specs.declared.Chart.{Chart}
 use Rattle.walker.specs.Answers.{walked_number, walked_count}
 use Rattle.walker.specs.Walk.{Outlined as WalkOutcome, walked}
 use Rattle.walker.specs.declared.Walked.{Walked}
-use Rattle.walker.specs.declared.Walked.TheVariants as Walked
 use Rattle.walker.proofs.Claims.{fits}
 use Rattle.texts.specs.Put.{Placed, put}
 use Rattle.frames.specs.Replies.{counted_text, numbers_text}

@@ -7,6 +7,7 @@
 // The arrays that a call needs lie on the stack, and that of Douglas-Peucker and of the numbers grows with
 // the depth of the splits (see `split`).
 #![tactic(auto)]
+
 mod calls;
 mod line;
 mod replies;

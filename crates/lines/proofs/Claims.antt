@@ -18,7 +18,6 @@ use Rattle.lines.specs.declared.reader.Taken.{Taken}
 use Rattle.lines.specs.declared.reader.Taken.TheVariants.{Line, More, End}
 use Rattle.lines.specs.declared.turns.State.{State}
 use Rattle.lines.specs.declared.turns.Turn.{Turn}
-use Rattle.lines.specs.declared.turns.Turn.TheVariants as Turn
 use Rattle.lines.proofs.turns.begin.Reads.{Post as Begin}
 use Rattle.lines.proofs.turns.fed.Reads.{Post as Fed}
 use Rattle.lines.proofs.turns.answered.Reads.{Post as Answered}

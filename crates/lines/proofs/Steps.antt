@@ -14,7 +14,6 @@ use Rattle.lines.specs.Turns.{Next, Step, line, turn_of, next_turn, stepped, ste
 use Rattle.lines.specs.Runs.{Machine, lines_of, whole_lines, answers_to, done, step_in}
 use Rattle.lines.specs.declared.reader.Reader.{Reader}
 use Rattle.lines.specs.declared.reader.Taken.{Taken}
-use Rattle.lines.specs.declared.reader.Taken.TheVariants as Taken
 use Rattle.lines.specs.declared.turns.Turn.{Turn}
 use Rattle.lines.specs.declared.turns.Turn.TheVariants.{Line, Write, Read, End}
 use Rattle.lines.proofs.TurnsLeft.{to_drop, two_back}

@@ -6,7 +6,6 @@ use Rattle.laws.specs.Outcome.{Outcome}
 use Rattle.lines.specs.Reader.{fresh_reader, fed_reader, taken}
 use Rattle.lines.specs.declared.reader.Reader.{Reader}
 use Rattle.lines.specs.declared.reader.Taken.{Taken}
-use Rattle.lines.specs.declared.reader.Taken.TheVariants as Taken
 use Rattle.lines.specs.declared.turns.State.{State}
 use Rattle.lines.specs.declared.turns.Turn.{Turn}
 use Rattle.lines.specs.declared.turns.Turn.TheVariants.{Line, Write, Read, End}

@@ -4,6 +4,7 @@
 // Nothing here reads or writes a file: the program reads into the input's buffer where a turn says, and
 // writes of the output as much as it says. Nothing fails, for any state, buffer or line.
 #![tactic(auto)]
+
 mod reader;
 mod refill;
 mod turns;

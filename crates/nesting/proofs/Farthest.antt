@@ -8,7 +8,7 @@ use native.Mathlib.Nat.{le_refl, eq-or-lt_of_le}
 use native.Mathlib.Omega.{arith}
 use lib.IntN.{ℤ}
 use lib.Ieee.{Float, lt}
-use Rattle.laws.proofs.Order.{AtLeastZero, at_least_zero, lt_irreflexive, lt_asymmetric, lt_transitive, ge_transitive, le_lt_transitive}
+use Rattle.laws.proofs.Order.{AtLeastZero, lt_irreflexive, lt_asymmetric, lt_transitive, ge_transitive, le_lt_transitive}
 use Rattle.split.specs.declared.farthest.Far.{Far}
 use Rattle.split.specs.Farthest.{distance_in, farther, farthest}
 use Rattle.split.proofs.Folds.{far, Over, over_first, over_rest, by_test, farther_any}

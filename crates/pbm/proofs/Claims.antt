@@ -12,7 +12,6 @@ use Rattle.pbm.specs.Read.{Reading, read_of}
 use Rattle.pbm.specs.Write.{picture_text, Written, text_handed, write_refusal, written_of}
 use Rattle.pbm.specs.Answers.{picture_number}
 use Rattle.pbm.specs.declared.Picture.{Picture}
-use Rattle.pbm.specs.declared.Picture.TheVariants as Picture
 use Rattle.pbm.proofs.theorems.Told.{refused_leaves}
 use Rattle.pbm.proofs.read.read_pbm.Reads.{Post as Read}
 use Rattle.pbm.proofs.write.write_pbm.Reads.{Post as Write}

@@ -11,7 +11,6 @@ use Rattle.pbm.specs.Header.{Header, header_in}
 use Rattle.pbm.specs.Raster.{Image, image_in}
 use Rattle.pbm.specs.Bytes.{chart_bytes}
 use Rattle.pbm.specs.declared.Picture.{Picture}
-use Rattle.pbm.specs.declared.Picture.TheVariants as Picture
 
 abbrev pub Reading : Type 0
 Reading = Outcome Picture (List ℕ)

@@ -4,6 +4,7 @@
 // Nothing is allocated: the file and the pixels are lent. A call that refuses leaves what it is lent as
 // it was. Behind a picture nothing is looked at, so that a caller can go on there.
 #![tactic(auto)]
+
 mod blanks;
 mod decimal;
 mod header;

@@ -3,6 +3,7 @@
 //
 // Each call is total and looks at nothing but what it is handed.
 #![tactic(auto)]
+
 mod flags;
 mod limits;
 mod list;

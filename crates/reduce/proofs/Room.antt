@@ -1,6 +1,6 @@
 -- Where nothing is refused there is room, and what an answer counts has its place. Assumes nothing.
 use Prim.Native.Nat.{ℕ, ◌*◌, ◌≤◌}
-use mathlib.Core.Bool.{Bool, true, false}
+use mathlib.Core.Bool.{false}
 use mathlib.Core.List.{List}
 use mathlib.Core.Option.{Option, some, none}
 use mathlib.Core.Path.{◌≡◌, refl}
@@ -12,7 +12,7 @@ use Rattle.laws.specs.Outcome.{Outcome}
 use Rattle.point.specs.Limits.{places_for}
 use Rattle.point.specs.Outcomes.{outcome}
 use Rattle.point.specs.Points.{points, count}
-use Rattle.point.specs.Refusals.{refuse◌when◌or◌, count_of}
+use Rattle.point.specs.Refusals.{count_of}
 use Rattle.point.specs.declared.refusal.Answer.{Answer}
 use Rattle.point.specs.declared.refusal.Answer.TheVariants.{Refused}
 use Rattle.point.specs.declared.refusal.Refusal.{Refusal}

@@ -11,7 +11,6 @@ use Rattle.laws.specs.Outcome.{Outcome}
 use Rattle.point.specs.Outcomes.{outcome}
 use Rattle.point.specs.Points.{points, count}
 use Rattle.point.specs.declared.refusal.Answer.{Answer}
-use Rattle.point.specs.declared.refusal.Answer.TheVariants as Answer
 use Rattle.point.specs.declared.refusal.Refusal.{Refusal}
 use Rattle.split.specs.Distance.{zero64}
 use Rattle.split.specs.Tree.{marks_of, numbers_of, tree}

@@ -3,7 +3,6 @@
 use Rattle.std.specs.Prelude.{ℕ}
 use Rattle.point.specs.Refusals.{refusal_number}
 use Rattle.point.specs.declared.refusal.Answer.{Answer}
-use Rattle.point.specs.declared.refusal.Answer.TheVariants as Answer
 use Rattle.reduce.specs.declared.Counted.{Counted}
 use Rattle.reduce.specs.declared.Counted.TheVariants.{Done, Refused}
 

@@ -17,7 +17,6 @@ use Rattle.split.specs.Tree.{marks_of, tree}
 use Rattle.split.specs.Visits.{visits}
 use Rattle.reduce.specs.Kept.{kept, short_for}
 use Rattle.reduce.specs.declared.Counted.{Counted}
-use Rattle.reduce.specs.declared.Counted.TheVariants as Counted
 
 -- "The lowest that applies is given"; Douglas-Peucker needs "n mark bytes"
 abbrev pub douglas_peucker_refusal : List ℤ → Float → List ℤ → List ℕ → Option Refusal

@@ -16,7 +16,6 @@ use Rattle.split.specs.Distance.{zero64}
 use Rattle.split.specs.Tree.{numbers_of, tree}
 use Rattle.split.specs.Visits.{visits}
 use Rattle.reduce.specs.declared.Counted.{Counted}
-use Rattle.reduce.specs.declared.Counted.TheVariants as Counted
 
 -- "The lowest that applies is given"
 abbrev pub numbers_refusal : List ℤ → List Float → Option Refusal

@@ -1,5 +1,5 @@
 -- The radial pass (reduce.rs, simplify_radial_dist): a point is kept when it lies farther than the tolerance from the last one kept.
-use Rattle.std.specs.Prelude.{Bool, true, false, ◌&&◌, List, [], ◌∷◌, ℤ, ◌+ℤ◌, ◌-ℤ◌, ◌*ℤ◌, Float, length}
+use Rattle.std.specs.Prelude.{true, false, List, [], ◌∷◌, ℤ, ◌+ℤ◌, ◌-ℤ◌, ◌*ℤ◌, Float, length}
 use Rattle.std.proofs.Math.Option.{Option, none}
 use Rattle.std.specs.Float.{binary64}
 use Rattle.std.specs.Float.Ieee.{of_int, lt}

@@ -8,6 +8,7 @@
 // stack does not grow (`split::mark_waiting`, `split::number_waiting`).
 // `simplify_douglas_peucker_counted` and `numbers_counted` also answer how many distances were computed.
 #![tactic(auto)]
+
 mod both_passes;
 mod douglas_peucker;
 mod keep;

@@ -17,7 +17,6 @@ use Rattle.requests.specs.Frame.{word_at, directed, clockwise, chart_in, start_i
 use Rattle.laws.specs.Outcome.{Outcome}
 use Rattle.requests.specs.Asked.{asked_of}
 use Rattle.requests.specs.declared.Asked.{Asked}
-use Rattle.requests.specs.declared.Asked.TheVariants as Asked
 
 -- ---- kind 01
 

@@ -17,7 +17,6 @@ use Rattle.requests.specs.Frame.{Request, walk, simplify, reduce, numbers, no_fr
 use Rattle.laws.specs.Outcome.{Outcome}
 use Rattle.requests.specs.Asked.{asked_of}
 use Rattle.requests.specs.declared.Asked.{Asked}
-use Rattle.requests.specs.declared.Asked.TheVariants as Asked
 use Rattle.requests.proofs.Points.{length_rest}
 use Rattle.requests.proofs.frame.request.Reads.{Post}
 

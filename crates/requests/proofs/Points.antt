@@ -15,7 +15,6 @@ use Rattle.laws.specs.If.{if◌then◌else◌}
 use Rattle.requests.specs.Frame.{word_at, values_of, clockwise, simplify_in, reduce_in, numbers_in, simplify, reduce, numbers, no_frame, Request}
 use Rattle.requests.specs.Asked.{with_points, asked_of}
 use Rattle.requests.specs.declared.Asked.{Asked}
-use Rattle.requests.specs.declared.Asked.TheVariants as Asked
 use Rattle.requests.proofs.Values.{length_values}
 
 -- what stands behind place m

@@ -5,7 +5,6 @@ use Rattle.laws.specs.If.{if◌then◌else◌}
 use Rattle.laws.specs.Outcome.{Outcome}
 use Rattle.requests.specs.Frame.{Request, rows_from, walk, simplify, reduce, numbers, no_frame}
 use Rattle.requests.specs.declared.Asked.{Asked}
-use Rattle.requests.specs.declared.Asked.TheVariants as Asked
 
 -- points that do not fit are not written, and there is no frame
 abbrev pub with_points : (ℕ → Asked) → List ℤ → List ℤ → Outcome Asked (List ℤ)

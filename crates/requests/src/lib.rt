@@ -2,6 +2,7 @@
 //
 // Nothing fails: what is no frame is answered so.
 #![tactic(auto)]
+
 mod frame;
 mod listed;
 mod two_bytes;

@@ -2,6 +2,7 @@
 // is to be done next; here it is done, and nothing else. A read or a write that fails is told on standard
 // error, and ends the program.
 #![tactic(auto)]
+
 mod step;
 
 ghost use Rattle.std.specs.Prelude.{◌≤◌, length};

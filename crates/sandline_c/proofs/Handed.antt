@@ -25,29 +25,21 @@ use Rattle.chart.specs.Pixels.{pixel_at}
 use Rattle.chart.specs.declared.Cells.{Cells}
 use Rattle.chart.specs.declared.Chart.{Chart}
 use Rattle.chart.specs.declared.Start.{Start}
-use Rattle.chart.specs.declared.Start.TheVariants as Start
 use Rattle.corners.specs.Calls.{find_corners_of}
 use Rattle.pbm.specs.declared.Picture.{Picture}
-use Rattle.pbm.specs.declared.Picture.TheVariants as Picture
 use Rattle.reduce.specs.Answers.{counted_number, counted_count, distances_of}
 use Rattle.reduce.specs.declared.Counted.{Counted}
 use Rattle.smooth.specs.declared.Subdivided.{Subdivided}
-use Rattle.smooth.specs.declared.Subdivided.TheVariants as Subdivided
 use Rattle.spiral.specs.Answers.{fresh_number}
 use Rattle.spiral.specs.declared.Advanced.{Advanced}
-use Rattle.spiral.specs.declared.Advanced.TheVariants as Advanced
 use Rattle.spiral.specs.declared.AdvancedOutcome.{AdvancedOutcome}
 use Rattle.spiral.specs.declared.Fresh.{Fresh}
-use Rattle.spiral.specs.declared.Fresh.TheVariants as Fresh
 use Rattle.spiral.specs.declared.SpiralWalker.{SpiralWalker}
 use Rattle.util.specs.Area.{signed_area_of}
 use Rattle.util.specs.Lengths.{norm_of_i32}
 use Rattle.util.specs.declared.Measure.{Measure}
-use Rattle.util.specs.declared.Measure.TheVariants as Measure
 use Rattle.util.specs.declared.MidPoint.{MidPoint}
-use Rattle.util.specs.declared.MidPoint.TheVariants as MidPoint
 use Rattle.util.specs.declared.Signed.{Signed}
-use Rattle.util.specs.declared.Signed.TheVariants as Signed
 use Rattle.util.specs.declared.ratios.Intersection.{Intersection}
 use Rattle.util.specs.declared.ratios.Intersection.TheVariants.{Parallel, Coincide, Cross, Refused}
 use Rattle.walker.specs.Answers.{walked_number, walked_count}

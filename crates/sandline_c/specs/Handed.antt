@@ -9,17 +9,14 @@ use Rattle.chart.specs.declared.Cells.{Cells}
 use Rattle.chart.specs.declared.Start.{Start}
 use Rattle.pbm.specs.Answers.{picture_number}
 use Rattle.pbm.specs.declared.Picture.{Picture}
-use Rattle.pbm.specs.declared.Picture.TheVariants as Picture
 use Rattle.reduce.specs.Answers.{counted_number, counted_count, distances_of}
 use Rattle.reduce.specs.declared.Counted.{Counted}
 use Rattle.smooth.specs.Answers.{subdivided_number, subdivided_count}
 use Rattle.smooth.specs.declared.Subdivided.{Subdivided}
-use Rattle.smooth.specs.declared.Subdivided.TheVariants as Subdivided
 use Rattle.spiral.specs.Answers.{fresh_number, advanced_number, advanced_values}
 use Rattle.spiral.specs.declared.Advanced.{Advanced}
 use Rattle.spiral.specs.declared.AdvancedOutcome.{AdvancedOutcome}
 use Rattle.spiral.specs.declared.Fresh.{Fresh}
-use Rattle.spiral.specs.declared.Fresh.TheVariants as Fresh
 use Rattle.spiral.specs.declared.SpiralWalker.{SpiralWalker}
 use Rattle.util.specs.Answers.{intersection_number, intersection_values, mid_point_number, mid_point_values, measure_number, measure_values, signed_number, signed_values}
 use Rattle.util.specs.declared.Measure.{Measure}

@@ -7,6 +7,7 @@
 // The calls of a crate stand in the file of its name, as they stand under its heading in the header. What stack
 // each call takes is said there too, and tools/stack prints it.
 #![tactic(auto)]
+
 mod chart_c;
 mod corners_c;
 mod frames_c;

@@ -5,6 +5,7 @@
 // Lists of points are x, y, x, y, in lent slices; counts are points. Refusals are judged first, and
 // then nothing can fail.
 #![tactic(auto)]
+
 mod costs;
 mod paths;
 mod penalties;

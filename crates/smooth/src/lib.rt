@@ -8,6 +8,7 @@
 // the length of one new segment or both. The Rust takes one more there, since it works out the distance
 // twice.
 #![tactic(auto)]
+
 mod positions;
 mod refusals;
 mod scheme;

@@ -6,7 +6,6 @@ use lib.IntN.{ℤ, pos, negsuc}
 use Rattle.point.specs.declared.PointI32.{PointI32}
 use Rattle.spiral.specs.Spiral.{fresh_spiral, spiral_turn}
 use Rattle.spiral.specs.declared.Fresh.{Fresh}
-use Rattle.spiral.specs.declared.Fresh.TheVariants as Fresh
 use Rattle.spiral.specs.declared.SpiralWalker.{SpiralWalker}
 use Rattle.spiral.specs.declared.Turn.{Turn}
 use Rattle.spiral.specs.declared.Turn.TheVariants.{At, End, Refused}

@@ -2,11 +2,8 @@
 use Rattle.std.specs.Prelude.{ℕ, List, [], ◌∷◌, ℤ}
 use Rattle.point.specs.Refusals.{refusal_number}
 use Rattle.spiral.specs.declared.Fresh.{Fresh}
-use Rattle.spiral.specs.declared.Fresh.TheVariants as Fresh
 use Rattle.spiral.specs.declared.Turn.{Turn}
-use Rattle.spiral.specs.declared.Turn.TheVariants as Turn
 use Rattle.spiral.specs.declared.Advanced.{Advanced}
-use Rattle.spiral.specs.declared.Advanced.TheVariants as Advanced
 
 -- ---- a fresh spiral: its value is the state itself
 

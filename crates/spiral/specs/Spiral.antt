@@ -8,10 +8,8 @@ use Rattle.point.specs.declared.refusal.Refusal.{Refusal}
 use Rattle.point.specs.declared.refusal.Refusal.TheVariants.{BadSize}
 use Rattle.spiral.specs.declared.SpiralWalker.{SpiralWalker}
 use Rattle.spiral.specs.declared.Fresh.{Fresh}
-use Rattle.spiral.specs.declared.Fresh.TheVariants as Fresh
 use Rattle.spiral.specs.declared.AdvancedOutcome.{AdvancedOutcome}
 use Rattle.spiral.specs.declared.Advanced.{Advanced}
-use Rattle.spiral.specs.declared.Advanced.TheVariants as Advanced
 use Rattle.spiral.specs.declared.Turn.{Turn}
 use Rattle.spiral.specs.declared.Turn.TheVariants.{At, End, Refused}
 

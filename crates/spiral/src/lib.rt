@@ -4,6 +4,7 @@
 // The state goes by value, and is answered anew with each point; `spiral_advance` moves it on in the
 // caller's own struct.
 #![tactic(auto)]
+
 mod answers;
 mod places;
 mod turning;

@@ -1,7 +1,7 @@
 -- What a span comes to: its marks, and its numbers. A span that is split comes to what its parts come to, in either order. Of the numbers, the
 -- least distance of the splits around a span is the lesser of the numbers at its ends, since these splits made them. Assumes nothing.
 use Prim.Native.Nat.{ℕ, ◌+◌, ◌≤◌, ◌<◌}
-use mathlib.Core.Bool.{Bool, true, false}
+use mathlib.Core.Bool.{true, false}
 use mathlib.Core.List.{List}
 use mathlib.Core.Logic.{inr}
 use mathlib.Core.Path.{◌≡◌, refl, sym, ap, ap₂, subst, ◌∙◌}

@@ -3,12 +3,12 @@
 use Prim.Native.Nat.{ℕ, suc, ◌+◌, ◌-◌, ◌*◌, ◌≤◌, ◌<◌}
 use mathlib.Core.Bool.{Bool, true, false, not, ◌&&◌}
 use mathlib.Core.List.{List}
-use mathlib.Core.Path.{◌≡◌, refl, sym, ap, ap₂, ◌∙◌}
+use mathlib.Core.Path.{◌≡◌, refl, ap, ◌∙◌}
 use native.Mathlib.Nat.{le_refl, le_trans}
 use native.Mathlib.Omega.{arith}
 use lib.Dec.{lit≤}
 use lib.IntN.{ℤ, pos, nat_abs}
-use lib.Ieee.{Float, lt, eq}
+use lib.Ieee.{Float, lt}
 use lib.ListN.{get_or}
 use Rattle.laws.proofs.Compare.{eq_is}
 use Rattle.laws.proofs.Finite.{nonneg_number}
@@ -19,7 +19,7 @@ use Rattle.point.proofs.Claims.{coordinates_fit}
 use Rattle.split.specs.Distance.{zero64}
 use Rattle.split.specs.Farthest.{distance_in, farthest}
 use Rattle.split.specs.inside.Spans.{Distance}
-use Rattle.split.specs.Tree.{Tree, leaf, node, span_tree, tree}
+use Rattle.split.specs.Tree.{span_tree, tree}
 use Rattle.split.specs.Visits.{visits, nonzero}
 use Rattle.split.proofs.Distances.{Small, distance_nonneg, distance_fits}
 use Rattle.split.proofs.Folds.{far, farther_any}

@@ -1,7 +1,7 @@
 -- The loop over spans that wait: what is left to do gives the whole. A span without interior is passed; a span is split, and one part of it
 -- waits; or a span is done. What a span comes to is a list of values, its `piece`, stored over its interior; it may hang on what the buffer
 -- holds at the span's ends, and `Good` says what must be known of these. Assumes nothing.
-use Prim.Native.Nat.{ℕ, zero, suc, ◌+◌, ◌-◌, ◌≤◌, ◌<◌}
+use Prim.Native.Nat.{ℕ, ◌+◌, ◌-◌, ◌≤◌, ◌<◌}
 use mathlib.Core.Bool.{Bool, true, false}
 use mathlib.Core.List.{List, [], ◌∷◌}
 use mathlib.Core.Path.{◌≡◌, refl, sym, ap, subst, ◌∙◌}

@@ -10,6 +10,7 @@
 // 4,095 for 4,096 points. `mark_waiting` and `number_waiting` keep the parts that wait in a list of twelve, in a
 // fixed stack, and answer how many distances they computed.
 #![tactic(auto)]
+
 mod distance;
 mod farthest;
 mod marks;

@@ -5,6 +5,7 @@
 // Every answer is the root as IEEE 754 asks for it: the value nearest to the exact root; no root lies
 // halfway between two. Nothing here fails, for any of the 2^64 patterns or any f64.
 #![tactic(auto)]
+
 mod root;
 
 pub use bits::{from_bits, to_bits};

@@ -16,7 +16,6 @@ use Rattle.laws.specs.Lists.{over}
 use Rattle.laws.proofs.Lists.{take_over_all}
 use Rattle.pbm.specs.Read.{Reading as Outcome, read_of}
 use Rattle.pbm.specs.declared.Picture.{Picture}
-use Rattle.pbm.specs.declared.Picture.TheVariants as Picture
 use Rattle.pbm.proofs.theorems.Behind.{nothing_more_matters}
 use Rattle.survey.specs.Survey.{text_of, chart_room, survey_text, is_read, whole, Step, step_of}
 use Rattle.survey.specs.Runs.{Machine, came, behind, fed, done, step_in, left, turned, after, started, Filled}

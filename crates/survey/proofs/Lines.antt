@@ -10,7 +10,6 @@ use Rattle.point.specs.Refusals.{refusal_number}
 use Rattle.chart.specs.Start.{first_start}
 use Rattle.chart.specs.declared.Chart.{Chart}
 use Rattle.chart.specs.declared.Start.{Start}
-use Rattle.chart.specs.declared.Start.TheVariants as Start
 use Rattle.walker.specs.Answers.{walked_number, walked_count}
 use Rattle.simplify.specs.Simplify.{simplify_of}
 use Rattle.reduce.specs.Numbers.{numbered_of}
@@ -26,7 +25,6 @@ use Rattle.frames.proofs.Room.{walk_counts}
 use Rattle.frames.proofs.Claims.{simplified_short, numbered_short}
 use Rattle.pbm.specs.Read.{read_of}
 use Rattle.pbm.specs.declared.Picture.{Picture}
-use Rattle.pbm.specs.declared.Picture.TheVariants as Picture
 use Rattle.survey.specs.Survey.{outline_from, outline_of, outlined, kept, two_lines, three_lines, refused_line, text_of, chart_room, survey_text}
 
 -- ---- lengths

@@ -7,7 +7,6 @@ use Rattle.point.specs.Refusals.{refusal_number, count_of}
 use Rattle.chart.specs.Start.{first_start}
 use Rattle.chart.specs.declared.Chart.{Chart}
 use Rattle.chart.specs.declared.Start.{Start}
-use Rattle.chart.specs.declared.Start.TheVariants as Start
 use Rattle.walker.specs.Answers.{walked_count}
 use Rattle.walker.specs.Walk as Walk
 use Rattle.walker.specs.declared.Walked.TheVariants as Walked
@@ -20,7 +19,6 @@ use Rattle.frames.specs.Calls.{walk_reply, simplify_reply, numbers_reply}
 use Rattle.lines.specs.Turns.{line}
 use Rattle.pbm.specs.Read as Pbm
 use Rattle.pbm.specs.declared.Picture.{Picture}
-use Rattle.pbm.specs.declared.Picture.TheVariants as Picture
 use Rattle.survey.specs.declared.step.Turn.{Turn}
 use Rattle.survey.specs.declared.step.Turn.TheVariants.{Read, Write}
 

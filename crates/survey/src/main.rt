@@ -3,6 +3,7 @@
 // `step` says what is to be done next; here it is done, and nothing else. A read or a write that fails is
 // told on standard error, and ends the program.
 #![tactic(auto)]
+
 mod answer;
 mod step;
 

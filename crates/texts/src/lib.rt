@@ -3,6 +3,7 @@
 //
 // Nothing fails: what does not fit is not written.
 #![tactic(auto)]
+
 mod decimal;
 mod glyphs;
 mod put;

@@ -3,13 +3,9 @@
 use Rattle.std.specs.Prelude.{ℕ, List, [], ◌∷◌, Float, ℤ}
 use Rattle.point.specs.Refusals.{refusal_number}
 use Rattle.util.specs.declared.MidPoint.{MidPoint}
-use Rattle.util.specs.declared.MidPoint.TheVariants as MidPoint
 use Rattle.util.specs.declared.Measure.{Measure}
-use Rattle.util.specs.declared.Measure.TheVariants as Measure
 use Rattle.util.specs.declared.ratios.Intersection.{Intersection}
-use Rattle.util.specs.declared.ratios.Intersection.TheVariants as Intersection
 use Rattle.util.specs.declared.Signed.{Signed}
-use Rattle.util.specs.declared.Signed.TheVariants as Signed
 
 -- document 01's number of each case, and the values that it carries
 abbrev pub mid_point_number : MidPoint → ℕ

@@ -10,9 +10,7 @@ use Rattle.point.specs.declared.PointI32.{PointI32}
 use Rattle.point.specs.declared.refusal.Refusal.TheVariants.{BadPoint}
 use Rattle.sqrt.specs.Root.{root_of}
 use Rattle.util.specs.declared.MidPoint.{MidPoint}
-use Rattle.util.specs.declared.MidPoint.TheVariants as MidPoint
 use Rattle.util.specs.declared.Measure.{Measure}
-use Rattle.util.specs.declared.Measure.TheVariants as Measure
 
 -- ---- find_mid_point
 

@@ -3,6 +3,7 @@
 // The calls refuse a coordinate out of range. `cross`, `middle` and `length`, on which other crates build,
 // take any.
 #![tactic(auto)]
+
 mod area;
 mod crossing;
 mod lengths;

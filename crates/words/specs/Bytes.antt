@@ -6,7 +6,6 @@ use Rattle.laws.specs.Lists.{over}
 use Rattle.laws.specs.Outcome.{Outcome}
 use Rattle.words.specs.Digits.{digit_of}
 use Rattle.words.specs.declared.bytes.Read.{Read}
-use Rattle.words.specs.declared.bytes.Read.TheVariants as Read
 
 -- the byte that two hexadecimal digits say; 256 where one of them is none
 unfoldable pub pair_of : ℕ → ℕ → ℕ

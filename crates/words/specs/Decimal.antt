@@ -3,9 +3,7 @@ use Rattle.std.specs.Prelude.{ℕ, ◌&&◌, List, ltb, eqb, length, get_or, dro
 use Rattle.laws.specs.If.{if◌then◌else◌}
 use Rattle.words.specs.Digits.{all_digits, value}
 use Rattle.words.specs.declared.decimal.Integer.{Integer}
-use Rattle.words.specs.declared.decimal.Integer.TheVariants as Integer
 use Rattle.words.specs.declared.decimal.Natural.{Natural}
-use Rattle.words.specs.declared.decimal.Natural.TheVariants as Natural
 
 -- decimal digits that say what 64 bits hold, at least one
 abbrev pub natural_of : List ℕ → Natural

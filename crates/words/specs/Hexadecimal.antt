@@ -3,7 +3,6 @@ use Rattle.std.specs.Prelude.{ℕ, ◌&&◌, List, ltb, leb, eqb, length}
 use Rattle.laws.specs.If.{if◌then◌else◌}
 use Rattle.words.specs.Digits.{all_digits, value}
 use Rattle.words.specs.declared.hexadecimal.Hex.{Hex}
-use Rattle.words.specs.declared.hexadecimal.Hex.TheVariants as Hex
 
 -- 1 to 16 hexadecimal digits, in either case
 unfoldable pub hex_of : List ℕ → Hex

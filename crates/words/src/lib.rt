@@ -4,6 +4,7 @@
 // Nothing fails, for any line: what is no number, or no bytes, is answered `Not`. What writes numbers
 // stands in `texts`.
 #![tactic(auto)]
+
 mod bytes;
 mod decimal;
 mod digits;

@@ -17,7 +17,6 @@ use Rattle.texts.specs.Put.{Placed, put}
 use Rattle.requests.specs.Frame.{Request, request_in}
 use Rattle.requests.specs.Asked.{asked_of}
 use Rattle.requests.specs.declared.Asked.{Asked}
-use Rattle.requests.specs.declared.Asked.TheVariants as Asked
 use Rattle.requests.proofs.Points.{rest_is}
 use Rattle.requests.proofs.Claims.{said, values_in, bytes_before, Told, told}
 use Rattle.frames.proofs.Parts.{from_start}

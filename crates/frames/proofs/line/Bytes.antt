@@ -13,7 +13,6 @@ use Rattle.laws.specs.Lists.{over}
 use Rattle.laws.proofs.Lists.{take_over_all}
 use Rattle.words.specs.Bytes.{Stored, bytes_of, read_into}
 use Rattle.words.specs.declared.bytes.Read.{Read}
-use Rattle.words.specs.declared.bytes.Read.TheVariants as Read
 use Rattle.texts.specs.Put.{Placed, put}
 use Rattle.requests.specs.Frame.{request_in}
 use Rattle.frames.specs.Answer.{bad_reply, reply_to, bytes_reply, answer_to}

@@ -6,11 +6,8 @@ use Rattle.pbm.specs.Header.{Number, Header}
 use Rattle.pbm.specs.Raster.{Image, Digits, raw_in, plain_in}
 use Rattle.pbm.specs.declared.header.Header as Read
 use Rattle.pbm.specs.declared.header.Head.{Head}
-use Rattle.pbm.specs.declared.header.Head.TheVariants as Head
 use Rattle.pbm.specs.declared.decimal.Size.{Size}
-use Rattle.pbm.specs.declared.decimal.Size.TheVariants as Size
 use Rattle.pbm.specs.declared.header.Place.{Place}
-use Rattle.pbm.specs.declared.header.Place.TheVariants as Place
 
 -- the place of a file at which so much of it is left
 abbrev pub place_of : List ℕ → Option (List ℕ) → Place

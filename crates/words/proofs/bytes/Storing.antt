@@ -12,7 +12,6 @@ use Rattle.laws.specs.Lists.{over}
 use Rattle.words.specs.Bytes.{prepend, read_into}
 use Rattle.words.specs.inside.Bytes.{count_of, laid, Room}
 use Rattle.words.specs.declared.bytes.Read.{Read}
-use Rattle.words.specs.declared.bytes.Read.TheVariants as Read
 
 -- `n` more
 abbrev pub plus : ℕ → Read → Read

@@ -3,7 +3,6 @@ use Rattle.std.specs.Prelude.{ℕ, ◌+◌, ◌≤◌, List, length}
 use Rattle.std.proofs.Math.Option.{Option, some, none}
 use Rattle.laws.specs.Lists.{over}
 use Rattle.words.specs.declared.bytes.Read.{Read}
-use Rattle.words.specs.declared.bytes.Read.TheVariants as Read
 
 -- how many there are
 abbrev pub count_of : Option (List ℕ) → Read

@@ -7,7 +7,7 @@ use native.Mathlib.Omega.{arith}
 use lib.Dec.{eqb}
 use lib.IntN.{ℤ}
 use lib.ListN.{length}
-use borrow.Author.Tests.{eq-eqb, ne_eqb, eqb-true, not-true, not-false}
+use borrow.Author.Tests.{eq-eqb, ne_eqb, eqb-true, not-false}
 use Rattle.laws.proofs.Joined.{both_false}
 use Rattle.point.specs.Limits.{too_many, bad_points, bad_flags, every, is_flag}
 use Rattle.point.specs.Points.{points, count}

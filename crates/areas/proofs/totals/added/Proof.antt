@@ -3,11 +3,11 @@ use Prim.Native.Nat.{◌<◌, ◌^◌}
 use mathlib.Core.Bool.{true}
 use mathlib.Core.Path.{◌≡◌, ◌∙◌}
 use mir.Syntax.{w64}
-use mir.Val.{SFits, of_z, to_z}
+use mir.Val.{SFits}
 use mir.ValLaws.{to_z-of_z}
 use lib.IntN.{ℤ, ◌+ℤ◌}
 use lib.Signed.{mag}
-use borrow.Author.Rules.{rules, sfits_of}
+use borrow.Author.Rules.{rules}
 use Rattle.areas.specs.Totals.{fits, plus}
 use Rattle.areas.specs.declared.Areas.{Areas}
 use Rattle.areas.proofs.Leaving.{bits, sum_by_bits, fits_held}

@@ -10,7 +10,6 @@ use borrow.Author.Rules.{rules}
 use Rattle.pbm.specs.Header.{Number, size_in, sizes_in}
 use Rattle.pbm.specs.inside.Places.{size_of, head_of}
 use Rattle.pbm.specs.declared.decimal.Size.{Size}
-use Rattle.pbm.specs.declared.decimal.Size.TheVariants as Size
 use Rattle.pbm.specs.declared.header.Head.TheVariants as Head
 use Rattle.pbm.proofs.Left.{left_of_left, drop_left, left_place, size_left}
 use Rattle.pbm.proofs.header.sizes.Statement.{statement}

@@ -8,7 +8,6 @@ use lib.Ieee.{Float, lt}
 use lib.ListN.{length, set, length-set}
 use lib.Seq.{sets}
 use borrow.Author.Rules.{rules}
-use Rattle.laws.specs.Outcome.{Outcome}
 use Rattle.split.specs.Buffers.{laid_marks}
 use Rattle.split.specs.Tree.{span_tree, tree, cut, marks_of}
 use Rattle.split.specs.Visits.{visits, counted_marks}

@@ -1,9 +1,9 @@
 -- `number_spans` meets its contract. The loop's invariant, `Turn`: what the span at hand and then those that wait, the last of them first, are
 -- still to number and to count gives the whole. What falls is two for each interior point left, and one for each span. Assumes nothing.
 use Prim.Native.Nat.{ℕ, ◌+◌, ◌-◌, ◌≤◌, ◌<◌}
-use mathlib.Core.Bool.{Bool, true, false, not}
+use mathlib.Core.Bool.{true, false, not}
 use mathlib.Core.List.{List}
-use mathlib.Core.Path.{◌≡◌, refl, sym, ap, ap₂, subst, ◌∙◌}
+use mathlib.Core.Path.{◌≡◌, refl, ap, ◌∙◌}
 use mir.Syntax.{w64}
 use mir.Val.{Fits}
 use lib.IntN.{ℤ}
@@ -16,7 +16,7 @@ use Rattle.split.specs.declared.farthest.Far.{Far}
 use Rattle.split.specs.declared.waiting.Parts.{Parts}
 use Rattle.split.specs.Distance.{zero64}
 use Rattle.split.specs.inside.Parts.{parts_of}
-use Rattle.split.specs.inside.Spans.{Distance, FoundInside}
+use Rattle.split.specs.inside.Spans.{FoundInside}
 use Rattle.split.specs.Tree.{span_tree, down}
 use Rattle.split.specs.Visits.{visits, nonzero}
 use Rattle.split.proofs.Pieces.{Ends, around, number_piece, no_numbers, numbers_parted, ends_around, infinite_ends, infinite_around}

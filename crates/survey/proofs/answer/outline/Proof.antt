@@ -10,7 +10,6 @@ use Rattle.point.specs.declared.refusal.Refusal.{Refusal}
 use Rattle.chart.specs.Start.{first_start}
 use Rattle.chart.specs.declared.Chart.{Chart}
 use Rattle.chart.specs.declared.Start.{Start}
-use Rattle.chart.specs.declared.Start.TheVariants as Start
 use Rattle.walker.specs.Walk.{Outlined as Outcome, walked}
 use Rattle.walker.specs.declared.Walked.TheVariants as Walked
 use Rattle.survey.specs.Survey.{outline_from, outline_of}

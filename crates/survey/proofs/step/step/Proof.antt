@@ -14,7 +14,6 @@ use Rattle.texts.specs.Put.{Placed, put}
 use Rattle.texts.proofs.Pieces.{put_fits}
 use Rattle.pbm.specs.Read.{Reading as Outcome, read_of}
 use Rattle.pbm.specs.declared.Picture.{Picture}
-use Rattle.pbm.specs.declared.Picture.TheVariants as Picture
 use Rattle.survey.specs.Survey.{three_lines, refused_line, text_of, chart_room, survey_text, is_read, whole, step_of}
 use Rattle.survey.specs.declared.step.Turn.TheVariants.{Read, Write}
 use Rattle.survey.proofs.Lines.{survey_short}

@@ -10,7 +10,6 @@ use borrow.Author.Rules.{rules}
 use borrow.Author.Tests.{lt-ltb, le-ltb}
 use Rattle.words.specs.Decimal.{from_zero}
 use Rattle.words.specs.declared.decimal.Natural.{Natural}
-use Rattle.words.specs.declared.decimal.Natural.TheVariants as Natural
 use Rattle.words.specs.declared.decimal.Integer.TheVariants as Integer
 use Rattle.words.proofs.decimal.from_zero.Statement.{statement}
 use Rattle.words.proofs.decimal.from_zero.Tie as tie

@@ -1,1 +1,0 @@
--- Answers has the theorems for readers.

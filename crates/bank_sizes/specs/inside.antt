@@ -1,2 +1,0 @@
--- What private functions promise one another: nobody need believe it.
-pub mod Placing
