@@ -1,7 +1,6 @@
 -- Totals: "10 when a total would leave i64".
-use Rattle.std.specs.Prelude.{Bool, ◌&&◌, ℤ, pos, negsuc, ◌+ℤ◌}
+use Rattle.std.specs.Prelude.{Bool, ◌&&◌, ℤ, pos, negsuc, ◌+ℤ◌, if◌then◌else◌}
 use Rattle.std.specs.Int.Signed.{le_z}
-use Rattle.laws.specs.If.{if◌then◌else◌}
 use Rattle.point.specs.declared.refusal.Refusal.TheVariants.{NoRoom}
 use Rattle.areas.specs.declared.Areas.{Areas}
 use Rattle.areas.specs.declared.Measured.{Measured}

@@ -1,6 +1,5 @@
 -- Document 01, "Sizes": a chart, its rows and its pixels.
-use Rattle.std.specs.Prelude.{ℕ, ◌+◌, ◌-◌, ◌*◌, ◌/◌, ◌%◌, ◌^◌, Bool, true, false, not, ◌&&◌, ◌||◌, List, ltb, leb, eqb, ℤ, pos, negsuc, ◌-ℤ◌, length, get_or}
-use Rattle.laws.specs.If.{if◌then◌else◌}
+use Rattle.std.specs.Prelude.{ℕ, ◌+◌, ◌-◌, ◌*◌, ◌/◌, ◌%◌, ◌^◌, Bool, true, false, not, ◌&&◌, ◌||◌, List, ltb, leb, eqb, ℤ, pos, negsuc, ◌-ℤ◌, length, get_or, if◌then◌else◌}
 use Rattle.chart.specs.declared.Chart.{Chart}
 
 -- "each padded to whole bytes": how many bytes a row of so many pixels takes

@@ -10,7 +10,7 @@ use lib.IntN.{ℤ}
 use lib.ListN.{length, take, get_or}
 use lib.Seq.{slice, slice_empty, ext_get_or}
 use borrow.Author.Tests.{eqb-true, eqb-false}
-use Rattle.laws.specs.If.{if◌then◌else◌}
+use Rattle.std.specs.Prelude.{if◌then◌else◌}
 use Rattle.point.specs.declared.PointI32.{PointI32}
 use Rattle.point.specs.Points.{count, seen, points, point_at, same_point}
 use Rattle.point.proofs.Room.{seen_few}

@@ -8,7 +8,7 @@ use native.Mathlib.Omega.{arith}
 use lib.IntN.{ℤ, pos}
 use lib.ListN.{length, take, drop, get_or}
 use lib.Seq.{slice, slice-cons, slice_empty, take-suc, drop-append-le, length-take-le}
-use Rattle.laws.specs.If.{if◌then◌else◌}
+use Rattle.std.specs.Prelude.{if◌then◌else◌}
 use Rattle.point.specs.declared.PointI32.{PointI32}
 use Rattle.point.specs.Points.{count, points, point_at, same_point}
 use Rattle.point.proofs.Flat.{length_points, points_at}

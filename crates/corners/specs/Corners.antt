@@ -1,9 +1,8 @@
 -- Which points are corners, by whole numbers alone: document 01, "Corners", as document 02, 2/13, changes it. Document 01: "With v1 into and v2
 -- out of a point, it is a corner when c·|cross| - s·dot ≥ 0. Closed lists drop the last point unseen and wrap; open lists flag both ends."
 -- Document 02: "v1 comes from the nearest earlier point that differs, v2 goes to the nearest later one that differs".
-use Rattle.std.specs.Prelude.{ℕ, Bool, not, ◌&&◌, ◌||◌, List, [], ◌∷◌, ◌++◌, reverse, eqb, ℤ, pos, nat_abs, ◌+ℤ◌, ◌-ℤ◌, ◌*ℤ◌, length, take}
+use Rattle.std.specs.Prelude.{ℕ, Bool, not, ◌&&◌, ◌||◌, List, [], ◌∷◌, ◌++◌, reverse, eqb, ℤ, pos, nat_abs, ◌+ℤ◌, ◌-ℤ◌, ◌*ℤ◌, length, take, if◌then◌else◌}
 use Rattle.std.specs.Int.Signed.{le_z}
-use Rattle.laws.specs.If.{if◌then◌else◌}
 use Rattle.point.specs.declared.PointI32.{PointI32}
 use Rattle.point.specs.Points.{seen, points, same_point}
 use Rattle.util.specs.Area.{cross_of}

@@ -1,7 +1,6 @@
 -- The corner rule before document 02's request 2/13, and what else its theorems (proofs/EnteredTwice) speak of. By that rule a point turned from
 -- the neighbour before it to the neighbour behind it, also where they were equal to it. No call answers by it any more.
-use Rattle.std.specs.Prelude.{ℕ, zero, suc, ◌-◌, ◌<◌, Bool, true, not, ◌&&◌, ◌||◌, List, [], ◌∷◌, ◌++◌, ◌≡◌, eqb, ℤ, take, drop}
-use Rattle.laws.specs.If.{if◌then◌else◌}
+use Rattle.std.specs.Prelude.{ℕ, zero, suc, ◌-◌, ◌<◌, Bool, true, not, ◌&&◌, ◌||◌, List, [], ◌∷◌, ◌++◌, ◌≡◌, eqb, ℤ, take, drop, if◌then◌else◌}
 use Rattle.point.specs.declared.PointI32.{PointI32}
 use Rattle.point.specs.Points.{count, seen, point_at}
 use Rattle.corners.specs.declared.Pair.{Pair}

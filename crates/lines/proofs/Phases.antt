@@ -8,7 +8,7 @@ use native.Mathlib.Omega.{arith}
 use lib.ListN.{length, length-append}
 use lib.Seq.{append_snoc}
 use borrow.Author.Tests.{lt-ltb, le-ltb}
-use Rattle.laws.specs.If.{if◌then◌else◌}
+use Rattle.std.specs.Prelude.{if◌then◌else◌}
 use Rattle.lines.specs.Turns.{line}
 use Rattle.lines.specs.Runs.{lines_of, whole_lines, or_empty, answers_to}
 use Rattle.lines.proofs.Newlines.{Free, free_append, whole_line, lines_line, none_whole, one_line}

@@ -1,6 +1,5 @@
 -- What `take` answers to a reader and a buffer, and what the buffer then holds.
-use Rattle.std.specs.Prelude.{ℕ, ◌+◌, ◌-◌, min, max, Bool, true, false, ◌||◌, List, ◌++◌, ltb, eqb, length, take, drop}
-use Rattle.laws.specs.If.{if◌then◌else◌}
+use Rattle.std.specs.Prelude.{ℕ, ◌+◌, ◌-◌, min, max, Bool, true, false, ◌||◌, List, ◌++◌, ltb, eqb, length, take, drop, if◌then◌else◌}
 use Rattle.laws.specs.Outcome.{Outcome}
 use Rattle.words.specs.Line.{first_from}
 use Rattle.lines.specs.declared.reader.Reader.{Reader}

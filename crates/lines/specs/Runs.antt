@@ -1,8 +1,7 @@
 -- A program that answers lines, run on a text: it does what its step says, turn by turn. proofs/Answers says what it has written when it reads
 -- on, and when it ends.
-use Rattle.std.specs.Prelude.{ℕ, zero, suc, ◌+◌, ◌-◌, min, List, [], ◌∷◌, ◌++◌, ltb, eqb, length, take, drop}
+use Rattle.std.specs.Prelude.{ℕ, zero, suc, ◌+◌, ◌-◌, min, List, [], ◌∷◌, ◌++◌, ltb, eqb, length, take, drop, if◌then◌else◌}
 use Rattle.words.specs.Line.{onto}
-use Rattle.laws.specs.If.{if◌then◌else◌}
 use Rattle.lines.specs.Turns.{Step, begun, fed_state, line, step_of}
 use Rattle.lines.specs.declared.turns.State.{State}
 use Rattle.lines.specs.declared.turns.Turn.{Turn}

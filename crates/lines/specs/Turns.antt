@@ -1,7 +1,6 @@
 -- What a program that answers lines does next: `next_turn` is what `next` promises, and `step_of` a program's turn with the answer that it puts.
-use Rattle.std.specs.Prelude.{ℕ, ◌-◌, List, [], ◌∷◌, ◌++◌, ltb, take, drop}
+use Rattle.std.specs.Prelude.{ℕ, ◌-◌, List, [], ◌∷◌, ◌++◌, ltb, take, drop, if◌then◌else◌}
 use Rattle.texts.specs.Put.{put}
-use Rattle.laws.specs.If.{if◌then◌else◌}
 use Rattle.laws.specs.Outcome.{Outcome}
 use Rattle.lines.specs.Reader.{fresh_reader, fed_reader, taken}
 use Rattle.lines.specs.declared.reader.Reader.{Reader}

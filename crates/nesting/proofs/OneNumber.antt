@@ -14,7 +14,7 @@ use lib.Ieee.{Float, nan, inf, binary64, of_int, lt, le}
 use lib.ListN.{length, get_or, take, drop, replicate, length-map, length-append}
 use lib.Seq.{get_or_at}
 use borrow.Author.Tests.{ne_eqb, le-ltb}
-use Rattle.laws.specs.If.{if◌then◌else◌}
+use Rattle.std.specs.Prelude.{if◌then◌else◌}
 use Rattle.laws.specs.Lists.{over}
 use Rattle.laws.specs.Outcome.{Outcome}
 use Rattle.laws.proofs.Lists.{get_d_over_front, take_over_all}

@@ -9,7 +9,7 @@ use lib.Dec.{ltb}
 use lib.ListN.{length, drop, set, length-append, length-set}
 use lib.Seq.{append_snoc, sets-eq}
 use borrow.Author.Tests.{ltb-false}
-use Rattle.laws.specs.If.{if◌then◌else◌}
+use Rattle.std.specs.Prelude.{if◌then◌else◌}
 use Rattle.laws.specs.Lists.{over}
 use Rattle.laws.proofs.Lists.{length_over}
 use Rattle.chart.specs.Pixels.{cell, all_bytes, bad_sides}

@@ -1,9 +1,8 @@
 -- Document 01, "Sizes": the limits of what a call is handed. Each test is true where the limit is passed.
-use Rattle.std.specs.Prelude.{ℕ, ◌%◌, Bool, true, not, ◌&&◌, ◌||◌, List, [], ◌∷◌, ltb, leb, eqb, ℤ, pos, negsuc, length, Float}
+use Rattle.std.specs.Prelude.{ℕ, ◌%◌, Bool, true, not, ◌&&◌, ◌||◌, List, [], ◌∷◌, ltb, leb, eqb, ℤ, pos, negsuc, length, Float, if◌then◌else◌}
 use Rattle.std.specs.Int.Signed.{le_z}
 use Rattle.std.specs.Float.{binary64}
 use Rattle.std.specs.Float.Ieee.{of_int, le}
-use Rattle.laws.specs.If.{if◌then◌else◌}
 use Rattle.point.specs.declared.PointF64.{PointF64}
 use Rattle.point.specs.declared.PointI32.{PointI32}
 

@@ -1,9 +1,8 @@
 -- The radial pass (reduce.rs, simplify_radial_dist): a point is kept when it lies farther than the tolerance from the last one kept.
-use Rattle.std.specs.Prelude.{true, false, List, [], ◌∷◌, ℤ, ◌+ℤ◌, ◌-ℤ◌, ◌*ℤ◌, Float, length}
+use Rattle.std.specs.Prelude.{true, false, List, [], ◌∷◌, ℤ, ◌+ℤ◌, ◌-ℤ◌, ◌*ℤ◌, Float, length, if◌then◌else◌}
 use Rattle.std.proofs.Math.Option.{Option, none}
 use Rattle.std.specs.Float.{binary64}
 use Rattle.std.specs.Float.Ieee.{of_int, lt}
-use Rattle.laws.specs.If.{if◌then◌else◌}
 use Rattle.point.specs.Limits.{too_many, bad_points, bad_sq_tolerance}
 use Rattle.point.specs.Outcomes.{Points, outcome, handed}
 use Rattle.point.specs.Points.{points, count, same_point}

@@ -1,9 +1,8 @@
 // Both passes together: the radial pass, and then Douglas-Peucker.
-ghost use Rattle.std.specs.Prelude.{◌*◌, ◌≤◌, false, ◌||◌, [], ◌≡◌, leb, ltb, length, take};
+ghost use Rattle.std.specs.Prelude.{◌*◌, ◌≤◌, false, ◌||◌, [], ◌≡◌, leb, ltb, length, take, if◌then◌else◌};
 ghost use Rattle.std.proofs.Math.Option.{none};
 ghost use Rattle.std.specs.Float.{binary64};
 ghost use Rattle.std.specs.Float.Ieee.{of_bits, eq};
-ghost use Rattle.laws.specs.If.{if◌then◌else◌};
 ghost use Rattle.point.specs.Limits.{bad_points, places_for};
 ghost use Rattle.point.specs.Points.{points as points_of};
 ghost use Rattle.point.specs.inside.Written.{Handed};

@@ -9,7 +9,7 @@ use lib.IntN.{ℤ}
 use lib.ListN.{length, get_or, drop}
 use borrow.Author.Tests.{eqb-true, ne_eqb, le-ltb, lt-ltb, not-true, not-false}
 use Rattle.laws.proofs.Joined.{both_true}
-use Rattle.laws.specs.If.{if◌then◌else◌}
+use Rattle.std.specs.Prelude.{if◌then◌else◌}
 use Rattle.point.specs.declared.PointI32.{PointI32}
 use Rattle.chart.specs.Pixels.{row_bytes}
 use Rattle.chart.specs.declared.Chart.{Chart}

@@ -11,7 +11,7 @@ use borrow.Author.Tests.{eqb-true, ltb-false, le-leb}
 use Rattle.laws.proofs.Determined.{Determined, same}
 use Rattle.laws.proofs.Joined.{both_true}
 use Rattle.laws.proofs.Lists.{take_over_all}
-use Rattle.laws.specs.If.{if◌then◌else◌}
+use Rattle.std.specs.Prelude.{if◌then◌else◌}
 use Rattle.chart.specs.Pixels.{row_bytes}
 use Rattle.requests.specs.Frame.{Request, walk, simplify, reduce, numbers, no_frame, word_at, values_of, clockwise, directed, chart_in, start_in, walk_in, simplify_in, reduce_in, numbers_in, kind_in, request_in}
 use Rattle.laws.specs.Outcome.{Outcome}

@@ -11,7 +11,7 @@ use lib.Seq.{take_all}
 use borrow.Author.Tests.{leb-true, leb-false, eqb-true, le-leb, lt-leb, not-true, not-false}
 use Rattle.laws.proofs.Joined.{both_true}
 use Rattle.laws.specs.Lists.{over}
-use Rattle.laws.specs.If.{if◌then◌else◌}
+use Rattle.std.specs.Prelude.{if◌then◌else◌}
 use Rattle.requests.specs.Frame.{word_at, values_of, clockwise, simplify_in, reduce_in, numbers_in, simplify, reduce, numbers, no_frame, Request}
 use Rattle.requests.specs.Asked.{with_points, asked_of}
 use Rattle.requests.specs.declared.Asked.{Asked}

@@ -1,7 +1,6 @@
 -- How what a frame asks for is handed on: its points at the start of a lent buffer, and the rest as the answer.
-use Rattle.std.specs.Prelude.{ℕ, List, leb, ℤ, length}
+use Rattle.std.specs.Prelude.{ℕ, List, leb, ℤ, length, if◌then◌else◌}
 use Rattle.laws.specs.Lists.{over}
-use Rattle.laws.specs.If.{if◌then◌else◌}
 use Rattle.laws.specs.Outcome.{Outcome}
 use Rattle.requests.specs.Frame.{Request, rows_from, walk, simplify, reduce, numbers, no_frame}
 use Rattle.requests.specs.declared.Asked.{Asked}

@@ -1,7 +1,6 @@
 -- What values that a caller hands in stand for.
-use Rattle.std.specs.Prelude.{ℕ, ◌+◌, ◌*◌, List, eqb, Float, ℤ, length, get_or}
+use Rattle.std.specs.Prelude.{ℕ, ◌+◌, ◌*◌, List, eqb, Float, ℤ, length, get_or, if◌then◌else◌}
 use Rattle.std.specs.Float.{nan}
-use Rattle.laws.specs.If.{if◌then◌else◌}
 use Rattle.point.specs.declared.PointI32.{PointI32}
 use Rattle.point.specs.declared.PointF64.{PointF64}
 use Rattle.chart.specs.declared.Chart.{Chart}

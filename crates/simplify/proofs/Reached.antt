@@ -13,7 +13,7 @@ use borrow.Author.Tests.{ltb-true, ltb-false, not-true, not-false}
 use Rattle.laws.proofs.Compare.{le_is, le_nan}
 use Rattle.laws.proofs.Finite.{of_int_nonneg}
 use Rattle.laws.proofs.Order.{AtLeastZero, ZeroOrMore, at_least_zero, lt_asymmetric, ge_transitive, lt_le_transitive}
-use Rattle.laws.specs.If.{if◌then◌else◌}
+use Rattle.std.specs.Prelude.{if◌then◌else◌}
 use Rattle.simplify.specs.Penalties.{greatest}
 use Rattle.simplify.specs.inside.Costs.{reaches}
 

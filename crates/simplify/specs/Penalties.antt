@@ -1,11 +1,10 @@
 -- The Rust's limit_penalties: from one point that is kept the outline goes straight to the next, and none of those left out between them costs
 -- too much. What a point costs, its penalty, is Heron's formula, operation by operation as the Rust computes it, over the square root of the
 -- crate `sqrt`.
-use Rattle.std.specs.Prelude.{ℕ, zero, suc, ◌-◌, Bool, true, false, List, [], ◌∷◌, ◌++◌, eqb, ℤ, pos, ◌-ℤ◌, ◌*ℤ◌, Float, length, get_or}
+use Rattle.std.specs.Prelude.{ℕ, zero, suc, ◌-◌, Bool, true, false, List, [], ◌∷◌, ◌++◌, eqb, ℤ, pos, ◌-ℤ◌, ◌*ℤ◌, Float, length, get_or, if◌then◌else◌}
 use Rattle.std.specs.Float.{binary64}
 use Rattle.std.specs.Float.Ieee.{of_int, add, sub, mul, div, lt, le}
 use Rattle.point.specs.Points.{points}
-use Rattle.laws.specs.If.{if◌then◌else◌}
 use Rattle.point.specs.declared.PointI32.{PointI32}
 use Rattle.sqrt.specs.Root.{root_of}
 use Rattle.point.specs.Outcomes.{Points, passed}

@@ -1,6 +1,5 @@
 -- One round of subdivision as the Rust makes it (smooth.rs, subdivide_keep_corners): each point, and what enters behind it.
-use Rattle.std.specs.Prelude.{ℕ, zero, suc, Bool, true, ◌&&◌, List, [], ◌∷◌, Float, get_or}
-use Rattle.laws.specs.If.{if◌then◌else◌}
+use Rattle.std.specs.Prelude.{ℕ, zero, suc, Bool, true, ◌&&◌, List, [], ◌∷◌, Float, get_or, if◌then◌else◌}
 use Rattle.point.specs.Points.{count, seen}
 use Rattle.point.specs.declared.PointF64.{PointF64}
 use Rattle.smooth.specs.Places.{place_at}

@@ -1,9 +1,8 @@
 -- Whether a point enters one segment, and where, operation by operation as the Rust has it (smooth.rs, subdivide_keep_corners). Document 01: "skip
 -- at length ≤ segment length, skip at a neighbour ratio ≥ 2.0, 3-point scheme at corners, f64::EPSILON test".
-use Rattle.std.specs.Prelude.{Bool, not, ◌||◌, pos, Float}
+use Rattle.std.specs.Prelude.{Bool, not, ◌||◌, pos, Float, if◌then◌else◌}
 use Rattle.std.specs.Float.{binary64}
 use Rattle.std.specs.Float.Ieee.{of_int, of_bits, add, sub, mul, div, lt, le}
-use Rattle.laws.specs.If.{if◌then◌else◌}
 use Rattle.point.specs.declared.PointF64.{PointF64}
 use Rattle.util.specs.Lengths.{middle, length_of}
 use Rattle.smooth.specs.declared.scheme.Settings.{Settings}

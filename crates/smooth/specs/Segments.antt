@@ -1,6 +1,5 @@
 -- What enters behind a point of a list: the segments of the list, and the points around each that count.
-use Rattle.std.specs.Prelude.{ℕ, suc, ◌-◌, Bool, not, ◌&&◌, ◌||◌, List, eqb, Float, get_or}
-use Rattle.laws.specs.If.{if◌then◌else◌}
+use Rattle.std.specs.Prelude.{ℕ, suc, ◌-◌, Bool, not, ◌&&◌, ◌||◌, List, eqb, Float, get_or, if◌then◌else◌}
 use Rattle.smooth.specs.Places.{place_at}
 use Rattle.smooth.specs.Scheme.{skipped, placed}
 use Rattle.smooth.specs.declared.scheme.Settings.{Settings}

@@ -1,6 +1,5 @@
 // Positions of a list of points, and the points there.
-ghost use Rattle.std.specs.Prelude.{◌<◌, ◌&&◌, ◌≡◌, eqb, length};
-ghost use Rattle.laws.specs.If.{if◌then◌else◌};
+ghost use Rattle.std.specs.Prelude.{◌<◌, ◌&&◌, ◌≡◌, eqb, length, if◌then◌else◌};
 ghost use Rattle.point.specs.Points.{count};
 ghost use Rattle.smooth.specs.Places.{place_at};
 ghost use Rattle.smooth.specs.Segments.{has_flag, prev_of, next_of};

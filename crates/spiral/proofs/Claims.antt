@@ -14,7 +14,7 @@ use types.Logic.{Logic}
 use prog.Memory.{Memory}
 use prog.Routine.{Routine}
 use Rattle.laws.proofs.Integers.{abs_sub_le, range_low, range_high}
-use Rattle.laws.specs.If.{if◌then◌else◌}
+use Rattle.std.specs.Prelude.{if◌then◌else◌}
 use Rattle.laws.proofs.Determined.{Determined, same}
 use Rattle.point.specs.declared.PointI32.{PointI32}
 use Rattle.point.specs.declared.refusal.Refusal.{Refusal}

@@ -19,7 +19,7 @@ use Rattle.laws.proofs.Finite.{Below, Big, below_mono, of_int_below, add_below, 
 use Rattle.laws.specs.inside.Finite.{NonNeg}
 use Rattle.laws.proofs.Whole.{Whole, of_int_whole, zero_whole, sub_whole, whole_big}
 use Rattle.laws.proofs.WholeTests.{ne_true_whole}
-use Rattle.laws.specs.If.{if◌then◌else◌}
+use Rattle.std.specs.Prelude.{if◌then◌else◌}
 use Rattle.point.specs.declared.PointI32.{PointI32}
 use Rattle.point.specs.declared.PointF64.{PointF64}
 use Rattle.split.specs.Distance.{zero64, one64, place_of, squares, along, has_length, nearest, foot, from_place, sq_seg_dist}

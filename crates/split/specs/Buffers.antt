@@ -1,6 +1,5 @@
 -- What the two calls leave in the buffer lent to them: "places past the answer hold theirs".
-use Rattle.std.specs.Prelude.{ℕ, ◌||◌, List, ltb, eqb, ℤ, Float, length}
-use Rattle.laws.specs.If.{if◌then◌else◌}
+use Rattle.std.specs.Prelude.{ℕ, ◌||◌, List, ltb, eqb, ℤ, Float, length, if◌then◌else◌}
 use Rattle.laws.specs.Lists.{over}
 use Rattle.point.specs.Points.{count}
 use Rattle.split.specs.Tree.{marks_of, numbers_of}

@@ -1,8 +1,7 @@
 -- The squared distance from a point to a segment, operation by operation as the Rust computes it (reduce.rs, get_sq_seg_dist on i32 points).
-use Rattle.std.specs.Prelude.{Bool, ◌||◌, Float}
+use Rattle.std.specs.Prelude.{Bool, ◌||◌, Float, if◌then◌else◌}
 use Rattle.std.specs.Float.{binary64}
 use Rattle.std.specs.Float.Ieee.{of_int, of_bits, add, sub, mul, div, lt, ne}
-use Rattle.laws.specs.If.{if◌then◌else◌}
 use Rattle.point.specs.declared.PointI32.{PointI32}
 use Rattle.point.specs.declared.PointF64.{PointF64}
 use Rattle.split.specs.declared.distance.Segment.{Segment}

@@ -1,7 +1,6 @@
 -- Document 01, "Numbers" and "reduce.rs": where a span of a list of points is split.
-use Rattle.std.specs.Prelude.{ℕ, zero, suc, ◌-◌, List, ℤ, Float}
+use Rattle.std.specs.Prelude.{ℕ, zero, suc, ◌-◌, List, ℤ, Float, if◌then◌else◌}
 use Rattle.std.specs.Float.Ieee.{lt}
-use Rattle.laws.specs.If.{if◌then◌else◌}
 use Rattle.point.specs.Points.{point_at}
 use Rattle.split.specs.Distance.{sq_seg_dist}
 use Rattle.split.specs.declared.farthest.Far.{Far}

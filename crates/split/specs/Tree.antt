@@ -1,10 +1,9 @@
 -- Document 01, "Numbers" and "reduce.rs": the tree of splits of a list of points; Douglas-Peucker is that tree cut at a tolerance, and a
 -- point's number is the least distance on the way down to it.
-use Rattle.std.specs.Prelude.{ℕ, zero, suc, ◌+◌, ◌-◌, true, false, List, [], ◌∷◌, ◌++◌, ltb, ℤ, Float, replicate}
+use Rattle.std.specs.Prelude.{ℕ, zero, suc, ◌+◌, ◌-◌, true, false, List, [], ◌∷◌, ◌++◌, ltb, ℤ, Float, replicate, if◌then◌else◌}
 use Rattle.std.specs.Float.{inf}
 use Rattle.std.specs.Float.Ieee.{lt}
 use Rattle.laws.specs.Least.{least}
-use Rattle.laws.specs.If.{if◌then◌else◌}
 use Rattle.point.specs.Points.{count}
 use Rattle.split.specs.Farthest.{farthest}
 

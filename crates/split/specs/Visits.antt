@@ -1,7 +1,6 @@
 -- Document 02, 8/13: how many distances are computed, and how many spans wait, "working on the span with fewer interior points first".
-use Rattle.std.specs.Prelude.{ℕ, suc, ◌+◌, Bool, true, false, not, ◌||◌, List, ◌≡◌, leb, ltb, ℤ, Float, length}
+use Rattle.std.specs.Prelude.{ℕ, suc, ◌+◌, Bool, true, false, not, ◌||◌, List, ◌≡◌, leb, ltb, ℤ, Float, length, if◌then◌else◌}
 use Rattle.std.specs.Float.Ieee.{lt, eq}
-use Rattle.laws.specs.If.{if◌then◌else◌}
 use Rattle.laws.specs.Outcome.{Outcome}
 use Rattle.point.specs.Points.{count}
 use Rattle.split.specs.Buffers.{laid_marks, laid_numbers}

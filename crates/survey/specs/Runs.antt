@@ -1,6 +1,5 @@
 -- The program, run on an input that comes in pieces: it does what its step says, turn by turn. proofs/Answers says what it writes, and when.
-use Rattle.std.specs.Prelude.{ℕ, zero, suc, ◌+◌, ◌-◌, ◌<◌, Bool, true, false, List, [], ◌∷◌, ◌++◌, ltb, length, take, drop}
-use Rattle.laws.specs.If.{if◌then◌else◌}
+use Rattle.std.specs.Prelude.{ℕ, zero, suc, ◌+◌, ◌-◌, ◌<◌, Bool, true, false, List, [], ◌∷◌, ◌++◌, ltb, length, take, drop, if◌then◌else◌}
 use Rattle.survey.specs.Survey.{Step, step_of, may_come}
 use Rattle.survey.specs.declared.step.Turn.{Turn}
 use Rattle.survey.specs.declared.step.Turn.TheVariants.{Read, Write}

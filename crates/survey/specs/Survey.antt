@@ -1,6 +1,5 @@
 -- What the program answers to a file: three lines of a picture, and one of what is no picture. A line has the form of document 01's "Frames".
-use Rattle.std.specs.Prelude.{ℕ, ◌*◌, Bool, true, false, not, ◌&&◌, List, [], ◌++◌, ltb, ℤ, length, take, replicate}
-use Rattle.laws.specs.If.{if◌then◌else◌}
+use Rattle.std.specs.Prelude.{ℕ, ◌*◌, Bool, true, false, not, ◌&&◌, List, [], ◌++◌, ltb, ℤ, length, take, replicate, if◌then◌else◌}
 use Rattle.laws.specs.Lists.{over}
 use Rattle.laws.specs.Outcome.{Outcome}
 use Rattle.point.specs.Refusals.{refusal_number, count_of}

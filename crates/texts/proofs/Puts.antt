@@ -9,7 +9,7 @@ use mir.Syntax.{w64}
 use mir.Val.{Fits}
 use lib.ListN.{length, take, drop, length-append}
 use borrow.Author.Tests.{leb-true, ltb-true}
-use Rattle.laws.specs.If.{if◌then◌else◌}
+use Rattle.std.specs.Prelude.{if◌then◌else◌}
 use Rattle.texts.specs.Text.{glyph_of, low_digits, decimal_digits}
 use Rattle.texts.specs.Put.{put}
 

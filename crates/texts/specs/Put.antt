@@ -1,6 +1,5 @@
 -- Text, put at a place of a buffer.
-use Rattle.std.specs.Prelude.{ℕ, ◌+◌, List, ◌++◌, leb, length, take, drop}
-use Rattle.laws.specs.If.{if◌then◌else◌}
+use Rattle.std.specs.Prelude.{ℕ, ◌+◌, List, ◌++◌, leb, length, take, drop, if◌then◌else◌}
 use Rattle.laws.specs.Outcome.{Outcome}
 
 -- the place behind what is put is the answer

@@ -1,6 +1,5 @@
 -- The signed area of three points (util.rs, signed_area). It refuses (BadPoint) "a coordinate out of range".
-use Rattle.std.specs.Prelude.{◌&&◌, ℤ, ◌-ℤ◌, ◌*ℤ◌}
-use Rattle.laws.specs.If.{if◌then◌else◌}
+use Rattle.std.specs.Prelude.{◌&&◌, ℤ, ◌-ℤ◌, ◌*ℤ◌, if◌then◌else◌}
 use Rattle.point.specs.Limits.{point_in_range}
 use Rattle.point.specs.declared.PointI32.{PointI32}
 use Rattle.point.specs.declared.refusal.Refusal.TheVariants.{BadPoint}

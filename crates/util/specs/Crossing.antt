@@ -1,9 +1,8 @@
 -- Where two lines cross, operation by operation as the Rust computes it (util.rs, find_intersection). The call refuses (BadPoint) "a coordinate
 -- out of range, NaN or infinite".
-use Rattle.std.specs.Prelude.{Bool, ◌&&◌, Float}
+use Rattle.std.specs.Prelude.{Bool, ◌&&◌, Float, if◌then◌else◌}
 use Rattle.std.specs.Float.{binary64}
 use Rattle.std.specs.Float.Ieee.{of_bits, neg, add, sub, mul, div, lt}
-use Rattle.laws.specs.If.{if◌then◌else◌}
 use Rattle.point.specs.Limits.{point_in_range_f64}
 use Rattle.point.specs.declared.PointF64.{PointF64}
 use Rattle.point.specs.declared.refusal.Refusal.TheVariants.{BadPoint}

@@ -1,9 +1,8 @@
 -- The midpoint of two points and the length of a vector, operation by operation as the Rust computes them (util.rs, find_mid_point and norm).
 -- The calls refuse (BadPoint) "a coordinate out of range, NaN or infinite".
-use Rattle.std.specs.Prelude.{◌&&◌, ℤ, pos, ◌+ℤ◌, ◌*ℤ◌, Float}
+use Rattle.std.specs.Prelude.{◌&&◌, ℤ, pos, ◌+ℤ◌, ◌*ℤ◌, Float, if◌then◌else◌}
 use Rattle.std.specs.Float.{binary64}
 use Rattle.std.specs.Float.Ieee.{of_int, add, mul, div}
-use Rattle.laws.specs.If.{if◌then◌else◌}
 use Rattle.point.specs.Limits.{point_in_range, point_in_range_f64}
 use Rattle.point.specs.declared.PointF64.{PointF64}
 use Rattle.point.specs.declared.PointI32.{PointI32}

@@ -1,6 +1,5 @@
 -- What a word of decimal digits reads as.
-use Rattle.std.specs.Prelude.{ℕ, ◌&&◌, List, ltb, eqb, length, get_or, drop, pos, neg_ℤ}
-use Rattle.laws.specs.If.{if◌then◌else◌}
+use Rattle.std.specs.Prelude.{ℕ, ◌&&◌, List, ltb, eqb, length, get_or, drop, pos, neg_ℤ, if◌then◌else◌}
 use Rattle.words.specs.Digits.{all_digits, value}
 use Rattle.words.specs.declared.decimal.Integer.{Integer}
 use Rattle.words.specs.declared.decimal.Natural.{Natural}

@@ -1,6 +1,5 @@
 -- A digit and its value, and the number that digits say.
-use Rattle.std.specs.Prelude.{ℕ, ◌+◌, ◌-◌, ◌*◌, Bool, true, ◌&&◌, List, [], ◌∷◌, ltb, leb}
-use Rattle.laws.specs.If.{if◌then◌else◌}
+use Rattle.std.specs.Prelude.{ℕ, ◌+◌, ◌-◌, ◌*◌, Bool, true, ◌&&◌, List, [], ◌∷◌, ltb, leb, if◌then◌else◌}
 
 -- the value of a digit, `0` to `9`, `A` to `F` and `a` to `f`; 16 for what is none
 unfoldable pub digit_of : ℕ → ℕ

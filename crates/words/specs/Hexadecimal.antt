@@ -1,6 +1,5 @@
 -- What a word of hexadecimal digits reads as.
-use Rattle.std.specs.Prelude.{ℕ, ◌&&◌, List, ltb, leb, eqb, length}
-use Rattle.laws.specs.If.{if◌then◌else◌}
+use Rattle.std.specs.Prelude.{ℕ, ◌&&◌, List, ltb, leb, eqb, length, if◌then◌else◌}
 use Rattle.words.specs.Digits.{all_digits, value}
 use Rattle.words.specs.declared.hexadecimal.Hex.{Hex}
 

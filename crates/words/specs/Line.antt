@@ -1,6 +1,5 @@
 -- A list of bytes, cut at each byte of one kind: a line's words at its spaces.
-use Rattle.std.specs.Prelude.{ℕ, suc, ◌+◌, List, [], ◌∷◌, eqb, get_or, drop}
-use Rattle.laws.specs.If.{if◌then◌else◌}
+use Rattle.std.specs.Prelude.{ℕ, suc, ◌+◌, List, [], ◌∷◌, eqb, get_or, drop, if◌then◌else◌}
 
 -- how many stand before the first `b`; all, where there is none
 unfoldable pub up_to : ℕ → List ℕ → ℕ

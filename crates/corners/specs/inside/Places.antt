@@ -1,7 +1,6 @@
 -- Runs of equal points among the m that are looked at, and the nearest points that differ from them.
-use Rattle.std.specs.Prelude.{ℕ, zero, suc, ◌<◌, ◌≤◌, Bool, false, not, ◌&&◌, ◌||◌, List, [], ◌∷◌, reverse, ◌≡◌, ℤ, take}
+use Rattle.std.specs.Prelude.{ℕ, zero, suc, ◌<◌, ◌≤◌, Bool, false, not, ◌&&◌, ◌||◌, List, [], ◌∷◌, reverse, ◌≡◌, ℤ, take, if◌then◌else◌}
 use Rattle.std.proofs.Math.Seq.{slice}
-use Rattle.laws.specs.If.{if◌then◌else◌}
 use Rattle.point.specs.declared.PointI32.{PointI32}
 use Rattle.point.specs.Points.{points, point_at, same_point}
 use Rattle.point.specs.inside.Near.{Near}

@@ -9,7 +9,7 @@ use native.Mathlib.Omega.{arith}
 use lib.Dec.{ltb}
 use lib.Seq.{append_snoc}
 use borrow.Author.Tests.{le-leb, lt-ltb, ltb-true}
-use Rattle.laws.specs.If.{if◌then◌else◌}
+use Rattle.std.specs.Prelude.{if◌then◌else◌}
 use Rattle.texts.specs.Text.{glyph_of, decimal_digits, natural_text}
 use Rattle.pbm.specs.Header.{white, hash, digit, begins, digits_from, number_in, size_in}
 use Rattle.pbm.proofs.theorems.HeaderFront.{digits_go_on, digits_stop, stops_at_a_digit, size_is}

@@ -1,7 +1,6 @@
 -- The parts of a round as the code has them.
-use Rattle.std.specs.Prelude.{ℕ, ◌+◌, ◌-◌, ◌*◌, Bool, true, false, ◌&&◌, List, [], ◌∷◌, ◌≡◌, eqb, Float, length, set, get_or}
+use Rattle.std.specs.Prelude.{ℕ, ◌+◌, ◌-◌, ◌*◌, Bool, true, false, ◌&&◌, List, [], ◌∷◌, ◌≡◌, eqb, Float, length, set, get_or, if◌then◌else◌}
 use Rattle.std.proofs.Math.Option.{Option, none}
-use Rattle.laws.specs.If.{if◌then◌else◌}
 use Rattle.point.specs.Refusals.{refuse◌when◌or◌}
 use Rattle.point.specs.declared.PointF64.{PointF64}
 use Rattle.point.specs.declared.refusal.Refusal.{Refusal}

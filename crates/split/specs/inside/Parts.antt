@@ -1,6 +1,5 @@
 -- The two parts of a span that is split: the one with fewer points inside is at hand next, the first of equals, and the other waits.
-use Rattle.std.specs.Prelude.{ℕ, ◌-◌, leb}
-use Rattle.laws.specs.If.{if◌then◌else◌}
+use Rattle.std.specs.Prelude.{ℕ, ◌-◌, leb, if◌then◌else◌}
 use Rattle.split.specs.declared.waiting.Parts.{Parts}
 
 unfoldable pub parts_of : ℕ → ℕ → ℕ → Parts

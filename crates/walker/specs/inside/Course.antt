@@ -1,8 +1,7 @@
 -- The walk as `course.rt` follows it: a place and the exit taken from there, by the four pixels around it, in place of the two points that
 -- were passed before. That it is the walk of `Walk` is shown in proofs/course/Follow.
-use Rattle.std.specs.Prelude.{ℕ, zero, suc, ◌+◌, ◌-◌, ◌*◌, ◌/◌, ◌%◌, ◌^◌, ◌≤◌, ◌<◌, Bool, true, false, not, ◌&&◌, List, [], ◌∷◌, ◌≡◌, ltb, eqb, ℤ, pos, negsuc, ◌+ℤ◌, length}
+use Rattle.std.specs.Prelude.{ℕ, zero, suc, ◌+◌, ◌-◌, ◌*◌, ◌/◌, ◌%◌, ◌^◌, ◌≤◌, ◌<◌, Bool, true, false, not, ◌&&◌, List, [], ◌∷◌, ◌≡◌, ltb, eqb, ℤ, pos, negsuc, ◌+ℤ◌, length, if◌then◌else◌}
 use Rattle.std.proofs.Math.Option.{Option, some, none}
-use Rattle.laws.specs.If.{if◌then◌else◌}
 use Rattle.laws.specs.Lists.{over}
 use Rattle.point.specs.Points.{flat, same_point}
 use Rattle.point.specs.declared.PointI32.{PointI32}

@@ -10,7 +10,7 @@ use lib.ListN.{take}
 use lib.Seq.{slice}
 use borrow.Author.Rules.{rules}
 use borrow.Author.Tests.{ltb-true, ltb-false, not-true, not-false}
-use Rattle.laws.specs.If.{if◌then◌else◌}
+use Rattle.std.specs.Prelude.{if◌then◌else◌}
 use Rattle.point.specs.declared.PointI32.{PointI32}
 use Rattle.point.specs.Limits.{bad_points}
 use Rattle.point.specs.Points.{count, seen, points, point_at}

@@ -7,7 +7,7 @@ use native.Mathlib.Omega.{arith}
 use lib.IntN.{ℤ}
 use lib.ListN.{take}
 use borrow.Author.Rules.{rules}
-use Rattle.laws.specs.If.{if◌then◌else◌}
+use Rattle.std.specs.Prelude.{if◌then◌else◌}
 use Rattle.reduce.proofs.both_passes.list_of.Statement.{statement}
 use Rattle.reduce.proofs.both_passes.list_of.Tie as tie
 

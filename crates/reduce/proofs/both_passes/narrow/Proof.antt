@@ -11,7 +11,7 @@ use lib.Ieee.{Float, binary64, of_bits, mul, eq}
 use lib.IntN.{ℤ}
 use lib.ListN.{length, take}
 use borrow.Author.Rules.{rules}
-use Rattle.laws.specs.If.{if◌then◌else◌}
+use Rattle.std.specs.Prelude.{if◌then◌else◌}
 use Rattle.laws.specs.Lists.{over}
 use Rattle.laws.specs.Outcome.{Outcome}
 use Rattle.laws.proofs.Lists.{take_over_all}

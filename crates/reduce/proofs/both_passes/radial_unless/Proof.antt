@@ -7,7 +7,7 @@ use lib.IntN.{ℤ}
 use borrow.Author.Rules.{rules}
 use Rattle.laws.specs.Lists.{over}
 use Rattle.point.specs.Points.{flat}
-use Rattle.laws.specs.If.{if◌then◌else◌}
+use Rattle.std.specs.Prelude.{if◌then◌else◌}
 use Rattle.point.specs.declared.PointI32.{PointI32}
 use Rattle.point.specs.inside.Written.{Handed}
 use Rattle.reduce.proofs.both_passes.radial_unless.Statement.{statement}

@@ -5,7 +5,7 @@ use mathlib.Core.Path.{◌≡◌}
 use lib.ListN.{get_or}
 use borrow.Author.Rules.{rules}
 use borrow.Author.Tests.{eq-eqb, ne_eqb}
-use Rattle.laws.specs.If.{if◌then◌else◌}
+use Rattle.std.specs.Prelude.{if◌then◌else◌}
 use Rattle.smooth.specs.Segments.{has_flag}
 use Rattle.smooth.proofs.positions.kept.Statement.{statement}
 use Rattle.smooth.proofs.positions.kept.Tie as tie
