@@ -3,8 +3,7 @@
 # The comment at the head of a script is its usage. The lines above its first empty one say what the script does and how
 # it is called; those below, what else there is to know. `--help` or `-h` prints it all, and the script ends with 0.
 
-# Text is bytes, for whichever awk, sed, sort and grep are there, and whatever language the caller works in. (Where awk is
-# gawk and letters are UTF-8, `rt` itself prints nothing of what the crates say.)
+# Text is bytes, for whichever awk, sed, sort and grep are there, and whatever language the caller works in.
 export LC_ALL=C
 
 top=$(cd "$(dirname "$0")/.." && pwd)
@@ -51,12 +50,16 @@ need() { # PROGRAM..
     done
 }
 
-# The toolchain: $kit is its folder, $own what of it is for the processor at hand.
+# The toolchain: $kit is its folder.
 need_kit() {
     command -v rt >/dev/null || lacks "no rt here, the command of the Rattle toolchain"
     kit=${RATTLE_HOME:-$(dirname "$(dirname "$(readlink -f "$(command -v rt)")")")}
-    own=$kit/on/$(uname -m)
-    [ -d "$own" ] || lacks "no toolchain for $(uname -m) in $kit: set RATTLE_HOME to its folder"
+    [ -d "$kit/toolchain" ] || lacks "no toolchain in $kit: set RATTLE_HOME to its folder"
+}
+
+# Prints the crates that a crate leans on, as crates.txt has them.
+leans_on() { # NAME
+    sed -n "s/^$1\( staticlib\)\{0,1\}: *//p" "$top/crates.txt"
 }
 
 # Ends unless this is a program of ours.
@@ -65,10 +68,10 @@ need_program() { # NAME
     wrong "no program '$1'; there are$(cd "$top/crates" && printf ' %s' */src/main.rt | sed 's|/src/main\.rt||g')"
 }
 
-# Ends unless this is a program of ours that `rt check` has proved and linked.
+# Ends unless this is a program of ours that tools/prove has proved and linked.
 need_proved() { # NAME
     need_program "$1"
-    [ -x "$top/target/bin/$1" ] || lacks "$1 is not proved yet: run rt check $1"
+    [ -x "$top/crates/$1/out/$1" ] || lacks "$1 is not proved yet: run tools/prove $1"
 }
 
 # Ends unless the oracle has cases of this name.
