@@ -22,8 +22,7 @@ use Rattle.pbm.specs.declared.header.Place.TheVariants.{At, Nowhere}
 use Rattle.pbm.proofs.Left.{left_place, left_of_left, drop_left, raster_left}
 use Rattle.pbm.proofs.Images.{no_raster, image_of_raster}
 use Rattle.pbm.proofs.Outcomes.{PlaceFound, place_found, nowhere, bad_sides_lem, no_image, an_image, no_room, room}
-use Rattle.pbm.proofs.read.read_behind.Statement.{statement}
-use Rattle.pbm.proofs.read.read_behind.Tie as tie
+use Rattle.pbm.proofs.read.read_behind.Goals as goal
 
 -- an image that is there
 record Whole (file : List ℕ) (o : Option Image) (end : ℕ) : Type 0 where
@@ -99,32 +98,23 @@ enough m n k e h = omega arith
 
 ruleset laws = (in_range_lem, inside, has, bad, nothing, broken, full, done, rules)
 
--- apart, so that an edit which judges in another order is refused here
-returns : tie.Need-returns-then-bad_sides
+pub returns-then-bad_sides : goal.returns-then-bad_sides
+returns-then-bad_sides c = search laws
+
+pub returns-in_default : goal.returns-in_default
+returns-in_default c = search laws
+
+pub returns-in_default-image_end : goal.returns-in_default-image_end
+returns-in_default-image_end c = search laws
+
+pub image_end-requires : goal.image_end-requires
+image_end-requires c = search laws
+
+pub returns-then-pixels-all_bytes : goal.returns-then-pixels-all_bytes
+returns-then-pixels-all_bytes c = search laws
+
+pub lay-requires : goal.lay-requires
+lay-requires c = (search in_range_lem, search enough, search inside, search has)
+
+pub returns : goal.returns
 returns c = search laws
-
-returns_3 : tie.Need-returns-in_default-image_end
-returns_3 c = search laws
-
-returns_5 : tie.Need-returns
-returns_5 c = search laws
-
-pub read_behind_spec : {M : Type 1} → statement M
-read_behind_spec =
-    tie.close
-    (tie.spec
-    (λ c κs. search laws)  -- bad_sides-requires
-    returns
-    (λ c κs. search laws)  -- raster-requires
-    (λ c. search laws)  -- enum_known-from
-    (λ c. search laws)  -- enum_told-1
-    (λ c. search laws)  -- returns-in_default
-    (λ c κs. search laws)  -- image_end-requires
-    (λ c. search laws)  -- enum_known-end
-    (λ c. search laws)  -- enum_told-in_default-image_end
-    returns_3
-    (λ c κs. search laws)  -- all_bytes-requires
-    (λ c. search laws)  -- returns-then-pixels-all_bytes
-    (λ c κs. (search in_range_lem, search enough, search inside, search has))  -- lay-requires
-    (λ c. search laws)  -- shape_of-pixels
-    returns_5)
