@@ -29,7 +29,7 @@ fn first_exit(around: u8, clockwise: bool) -> u8
 
 // The exits taken from the start, four bits for each of the sixteen numbers that `chart::around` gives.
 //
-// Each word was made from `firstExit` of specs/inside/Course: its hexadecimal digit m, the last of them
+// Each word was made from `first_exit` of specs/inside/Course: its hexadecimal digit m, the last of them
 // digit 0, is the exit for number m, or 4 where there is none. The proof computes all sixteen. By hand:
 // in number 1 the pixel below on the right alone is set, so that right and down are exits. Clockwise
 // tries 0, 1, 2, 3 and takes right: digit 1 of the first word is 1. Otherwise 3, 2, 1, 0 are tried
