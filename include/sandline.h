@@ -115,7 +115,7 @@ enum sandline_number {
 
 // Whether the pixel in column x of row y is set. Refuses nothing: outside the chart, past the last byte, and
 // of a chart wider than 512, no pixel is set.
-// Stack of sandline_pixel: 8 bytes.
+// Stack of sandline_pixel: 24 bytes.
 bool sandline_pixel(uint64_t width, uint64_t height, const uint8_t *pixels, uint64_t bytes, int32_t x, int32_t y);
 
 // How many pixels are set, in count.
@@ -151,7 +151,7 @@ uint8_t sandline_first_start(uint64_t width, uint64_t height, const uint8_t *pix
 // Room: 2 elements for each point of the outline.
 // Refuses: a bad chart (1), x or y beyond 16,383 (3), a start whose four pixels are alike (8), over 1,000,000 steps
 // after some run (9), no room (10).
-// Stack of sandline_walk: 384 bytes.
+// Stack of sandline_walk: 336 bytes.
 uint8_t sandline_walk(uint64_t width, uint64_t height, const uint8_t *pixels, uint64_t bytes, int32_t x, int32_t y,
                       bool clockwise, int32_t *out, uint64_t room, uint64_t *count);
 
@@ -261,7 +261,7 @@ bool sandline_coincide(const double *values, uint64_t count);
 // and no room (10): 2n elements for n points, 4 for a single one.
 
 // Without one-pixel staircases. Clockwise says which way round the list goes.
-// Stack of sandline_remove_staircase: 104 bytes.
+// Stack of sandline_remove_staircase: 88 bytes.
 uint8_t sandline_remove_staircase(const int32_t *points, uint64_t length, bool clockwise, int32_t *out,
                                   uint64_t room, uint64_t *count);
 
@@ -271,7 +271,7 @@ uint8_t sandline_remove_staircase(const int32_t *points, uint64_t length, bool c
 uint8_t sandline_limit_penalties(const int32_t *points, uint64_t length, int32_t *out, uint64_t room, uint64_t *count);
 
 // Both, one after the other: what to do with a walked outline.
-// Stack of sandline_simplify: 33,096 bytes, most of them for the list between the two.
+// Stack of sandline_simplify: 33,080 bytes, most of them for the list between the two.
 uint8_t sandline_simplify(const int32_t *points, uint64_t length, bool clockwise, int32_t *out, uint64_t room,
                           uint64_t *count);
 
@@ -285,7 +285,7 @@ uint8_t sandline_simplify(const int32_t *points, uint64_t length, bool clockwise
 //
 // c is -1,000 to 1,000, s 1 to 1,000. Room: n flags, n - 1 of a closed list.
 // Refuses too many points (2), a bad list (3), no points (4), a bad pair (7), no room (10).
-// Stack of sandline_find_corners: 144 bytes.
+// Stack of sandline_find_corners: 432 bytes.
 uint8_t sandline_find_corners(const int32_t *points, uint64_t length, int32_t c, int32_t s, bool closed,
                               uint8_t *flags, uint64_t room, uint64_t *count);
 
@@ -302,7 +302,7 @@ uint8_t sandline_find_corners(const int32_t *points, uint64_t length, int32_t c,
 // Room: 2n - 1 points, that is 4n - 2 doubles, and 2n - 1 flags; none where n is 0.
 // Refuses too many points (2), a bad list (3), a closed list of fewer than 2 points (4), bad flags (6), bad settings
 // (7), no room (10); then finished holds what it held.
-// Stack of sandline_subdivide_keep_corners: 392 bytes.
+// Stack of sandline_subdivide_keep_corners: 360 bytes.
 uint8_t sandline_subdivide_keep_corners(const double *points, uint64_t points_length, const uint8_t *corners,
                                         uint64_t corners_length, double ratio, double length, bool closed,
                                         double *out, uint64_t room, uint8_t *flags, uint64_t flag_room, uint64_t *count,
@@ -324,19 +324,19 @@ uint8_t sandline_subdivide_keep_corners(const double *points, uint64_t points_le
 
 // The radial pass: a point is kept if it lies farther than the tolerance from the last one kept; the first and
 // the last stay. The tolerance is SQUARED, 0 to 4,294,967,296 square pixels.
-// Stack of sandline_simplify_radial_dist: 88 bytes.
+// Stack of sandline_simplify_radial_dist: 104 bytes.
 uint8_t sandline_simplify_radial_dist(const int32_t *points, uint64_t length, double tolerance, int32_t *out,
                                       uint64_t room, uint64_t *count);
 
 // Douglas-Peucker at a SQUARED tolerance, 0 to 4,294,967,296. Both ends stay; one point is answered twice.
 // After it marks starts with n bytes, 1 for each point kept and 0 for each dropped.
 // Room: n marks too. Refuses a list of no points (4) too.
-// Stack of sandline_simplify_douglas_peucker: 408 bytes.
+// Stack of sandline_simplify_douglas_peucker: 360 bytes.
 uint8_t sandline_simplify_douglas_peucker(const int32_t *points, uint64_t length, double tolerance, int32_t *out,
                                           uint64_t room, uint8_t *marks, uint64_t mark_room, uint64_t *count);
 
 // The same, and in distances how many were computed: 0 where it is refused.
-// Stack of sandline_simplify_douglas_peucker_counted: 408 bytes.
+// Stack of sandline_simplify_douglas_peucker_counted: 360 bytes.
 uint8_t sandline_simplify_douglas_peucker_counted(const int32_t *points, uint64_t length, double tolerance,
                                                   int32_t *out, uint64_t room, uint8_t *marks, uint64_t mark_room,
                                                   uint64_t *count, uint64_t *distances);
@@ -352,12 +352,12 @@ uint8_t sandline_reduce(const int32_t *points, uint64_t length, double tolerance
 // One number for each point: at exactly the squared tolerances below it Douglas-Peucker keeps the point. Both
 // ends have infinity. Count is n.
 // Room: n doubles, 2 where n is 1. No tolerance; refuses a list of no points (4) too.
-// Stack of sandline_numbers: 392 bytes.
+// Stack of sandline_numbers: 360 bytes.
 uint8_t sandline_numbers(const int32_t *points, uint64_t length, double *out, uint64_t room, uint64_t *count);
 
 // The same, and in distances how many were computed: as many as by Douglas-Peucker at the squared tolerance 0, and 0
 // where it is refused.
-// Stack of sandline_numbers_counted: 392 bytes.
+// Stack of sandline_numbers_counted: 360 bytes.
 uint8_t sandline_numbers_counted(const int32_t *points, uint64_t length, double *out, uint64_t room, uint64_t *count,
                                  uint64_t *distances);
 
@@ -388,7 +388,7 @@ uint64_t sandline_sqrt_bits(uint64_t bits);
 // It is written from out[at] on, also with no end of line, and the place behind it is returned; where it does not fit
 // nothing is written, and at itself is returned. An answer has 8 digits at least, and 32,768 at most.
 // Whatever the line holds is answered; what is no frame by ff0b0000. Out and at are in digits.
-// Stack of sandline_answer: 119,304 bytes.
+// Stack of sandline_answer: 119,272 bytes.
 uint64_t sandline_answer(const uint8_t *line, uint64_t length, uint8_t *out, uint64_t room, uint64_t at);
 
 #ifdef __cplusplus
