@@ -9,6 +9,8 @@ ghost use Rattle.std.specs.Prelude.{◌≡◌};
 ghost use Rattle.std.specs.Float.{binary64};
 ghost use Rattle.std.specs.Float.Ieee.{to_bits, of_bits};
 
+use std::num::{f64_from_bits_with_nan, f64_to_bits_with_nan};
+
 // The pattern of every NaN that is handed out.
 pub const NAN: u64 = 0x7ff8_0000_0000_0000;
 
@@ -22,18 +24,12 @@ pub const SIGN: u64 = 0x8000_0000_0000_0000;
 pub fn to_bits(x: f64) -> u64
     ensures { result ≡ to_bits binary64 x }
 {
-    if x != x {
-        return NAN;
-    }
-    f64::to_bits(x)
+    f64_to_bits_with_nan(x)
 }
 
 // The double whose bits are `b`.
 pub fn from_bits(b: u64) -> f64
     ensures { result ≡ of_bits binary64 b }
 {
-    if INFINITY < b % SIGN {
-        return 0.0 / 0.0;
-    }
-    f64::from_bits(b)
+    f64_from_bits_with_nan(b)
 }

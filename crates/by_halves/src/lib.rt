@@ -28,6 +28,7 @@ pub fn sqrt(x: f64) -> f64
 }
 
 // The bits of the root of a normal double above zero, from its bits.
+#[tactic(auto, using(sqrt::proofs::nearest::Normal::shifts))]
 fn normal_root(b: u64) -> u64
     requires { (2 ^ 52 ≤ b) × (b < 0x7ff0000000000000) }
     ensures { result ≡ root_bits b }

@@ -46,6 +46,7 @@ fn lengthen(part: Part, b: u64, high: u64, low: u64) -> Part
 
 // The whole root of the square of `root`, with `left` added and `square` taken off: it is `root`, or one
 // less.
+#[tactic(auto, using(crate::proofs::ByHalves::from_root))]
 fn lowered(root: u64, left: u64, square: u64) -> Part
     requires { (root < 2 ^ 54) × (left ≤ 2 * root) × (square < 2 * root) }
     ensures { Found (root * root + left - square) result.root result.left 1 }
@@ -64,15 +65,14 @@ fn lowered(root: u64, left: u64, square: u64) -> Part
 }
 
 // The whole root of `n`, bit by bit. Its leading bit is set, and the thirteen below are tried.
+// (std's `isqrt` took twice the time of these thirteen turns on x86-64.)
 fn whole_root(n: u64) -> Part
     requires { (2 ^ 26 ≤ n) × (n < 2 ^ 28) }
     ensures { Found n result.root result.left 1 }
 {
     let mut root = QUARTER;
     let mut left = n - HALF;
-    let mut k = 13u32;
-    while 0 < k {
-        k -= 1;
+    for k in (0u32..13).rev() {
         let bit = 1u64 << k;
         let next = (root * 2 + bit) * bit;
         if next <= left {

@@ -9,22 +9,28 @@ use lib.ListN.{length, get_or, set}
 use borrow.Author.Tests.{eqb-true, not-false}
 use mathlib.Core.Option.{Option, some, none}
 use native.Mathlib.Omega.{arith}
+use Rattle.std.specs.Prelude.{Result, Ok, Err}
+use Rattle.std.specs.List.{list_all}
 use Rattle.point.specs.Refusals.{refusal_number, number_of, count_of}
-use Rattle.point.proofs.refusal.Refusal.number.Reads.{Post as RefusalNumber}
-use Rattle.point.proofs.refusal.Answer.number.Reads.{Post as AnswerNumber}
-use Rattle.point.proofs.refusal.Answer.count.Reads.{Post as AnswerCount}
 use Rattle.laws.proofs.Integers.{range_true}
 use Rattle.laws.proofs.Joined.{both_true, both_false}
-use Rattle.point.specs.Limits.{every, in_range, point_in_range, within, in_range_f64, point_in_range_f64, bad_list, bad_points, bad_points_f64, bad_tolerance, bad_sq_tolerance, bad_flags, too_many, places_for}
+use Rattle.point.specs.Limits.{in_range, point_in_range, within, in_range_f64, point_in_range_f64, bad_list, bad_points, bad_tolerance, bad_sq_tolerance, bad_flags, too_many, places_for}
+use mir.Syntax.{Dict}
+use denote.Param.Laws.{Laws, IsCopy}
+use denote.RattleType.{RattleType}
+use Rattle.std.specs.declared.clone.Clone
+use Rattle.point.specs.declared.limits.Ranged
+use Rattle.point.proofs.refusal.Refusal.number.Reads.{Post as RefusalNumber}
+use Rattle.point.proofs.refusal.number.Reads.{Post as Number}
+use Rattle.point.proofs.limits.bad_points.Reads.{Post as BadPoints}
+use Rattle.point.proofs.limits.judge_points.Reads.{Post as JudgePoints}
+use Rattle.point.proofs.limits.I32Ranged.in_range.Reads.{Post as InRange}
+use Rattle.point.proofs.limits.F64Ranged.in_range.Reads.{Post as InRangeF64}
+use Rattle.point.proofs.limits.PointI32Ranged.in_range.Reads.{Post as PointInRange}
+use Rattle.point.proofs.limits.PointF64Ranged.in_range.Reads.{Post as PointInRangeF64}
 use Rattle.point.proofs.limits.too_many.Reads.{Post as TooMany}
-use Rattle.point.proofs.limits.in_range.Reads.{Post as InRange}
-use Rattle.point.proofs.limits.in_range_f64.Reads.{Post as InRangeF64}
-use Rattle.point.proofs.limits.point_in_range.Reads.{Post as PointInRange}
-use Rattle.point.proofs.limits.point_in_range_f64.Reads.{Post as PointInRangeF64}
 use Rattle.point.proofs.limits.within.Reads.{Post as Within}
 use Rattle.point.proofs.limits.places_for.Reads.{Post as PlacesFor}
-use Rattle.point.proofs.limits.bad_points.Reads.{Post as BadPoints}
-use Rattle.point.proofs.limits.bad_points_f64.Reads.{Post as BadPointsF64}
 use Rattle.point.proofs.flags.bad_flags.Reads.{Post as BadFlags}
 use Rattle.point.proofs.limits.bad_tolerance.Reads.{Post as BadTolerance}
 use Rattle.point.proofs.limits.bad_sq_tolerance.Reads.{Post as BadSqTolerance}
@@ -36,15 +42,12 @@ use Rattle.point.proofs.list.put.Reads.{Post as Put}
 use Rattle.point.proofs.list.seen.Reads.{Post as Seen}
 use Rattle.point.proofs.vector.same_point.Reads.{Post as SamePoint}
 use Rattle.laws.proofs.Lists.{length_over}
-use Rattle.point.specs.declared.refusal.Answer.TheVariants.{Done, Refused}
 use Rattle.point.specs.declared.refusal.Refusal.{Refusal}
-use Rattle.point.specs.declared.refusal.Verdict.{Verdict}
 use Rattle.point.proofs.Flat.{length_flat}
 use Rattle.laws.specs.Outcome.{Outcome}
-use Rattle.point.specs.Outcomes.{Points, refusal, verdict, outcome, handed, passed}
+use Rattle.point.specs.Outcomes.{Points, list_refusal, refusal, verdict, outcome, handed, passed}
 use Rattle.point.proofs.limits.judge.Reads.{Post as Judge}
 use Rattle.laws.proofs.Determined.{Determined, same}
-use Rattle.point.specs.declared.refusal.Answer.{Answer}
 use lib.Ieee.{Float}
 
 -- ---- Each contract leaves no choice: of equal arguments it allows one answer, and one last content of the buffer. `Post` is the contract
@@ -53,14 +56,18 @@ use lib.Ieee.{Float}
 pub refusal_number_determined : Determined Refusal ℕ RefusalNumber (λ _ a. a.0) (λ _ r s. r)
 refusal_number_determined = same refusal_number (λ _ a r s p. p)
 
-pub answer_number_determined : Determined Answer ℕ AnswerNumber (λ _ a. a.0) (λ _ r s. r)
-answer_number_determined = same number_of (λ _ a r s p. p)
+-- of an answer of whatever is handed out
+module _ (T : RattleType) (L : Laws T) (C : IsCopy T) (G : Clone.Ghosts T.Denot) (D : Dict) where
+  pub number_determined : Determined (Result T.Denot Refusal) ℕ (Number T L C G D) (λ _ a. a.0) (λ _ r s. r)
+  number_determined = same number_of (λ _ a r s p. p)
 
-pub answer_count_determined : Determined Answer ℕ AnswerCount (λ _ a. a.0) (λ _ r s. r)
-answer_count_determined = same count_of (λ _ a r s p. p)
+-- of values of whatever has a range
+module _ (T : RattleType) (L : Laws T) (C : IsCopy T) (R : Ranged.Ghosts T.Denot) (E : Dict) (G : Clone.Ghosts T.Denot) (D : Dict) where
+  pub bad_points_determined : Determined (List T.Denot) Bool (BadPoints T L C R E G D) (λ _ a. a.0.now) (λ _ r s. r)
+  bad_points_determined = same (bad_list R.fits) (λ _ a r s p. p)
 
-pub too_many_determined : Determined ℕ Bool TooMany (λ _ a. a.0) (λ _ r s. r)
-too_many_determined = same too_many (λ _ a r s p. p)
+  pub judge_points_determined : Determined (List T.Denot) (Result Unit Refusal) (JudgePoints T L C R E G D) (λ _ a. a.0.now) (λ _ r s. r)
+  judge_points_determined = same (λ x. verdict (list_refusal R.fits x)) (λ _ a r s p. p)
 
 pub in_range_determined : Determined ℤ Bool InRange (λ _ a. a.0) (λ _ r s. r)
 in_range_determined = same in_range (λ _ a r s p. p)
@@ -74,17 +81,14 @@ point_in_range_determined = same point_in_range (λ _ a r s p. p)
 pub point_in_range_f64_determined : Determined PointF64 Bool PointInRangeF64 (λ _ a. a.0) (λ _ r s. r)
 point_in_range_f64_determined = same point_in_range_f64 (λ _ a r s p. p)
 
+pub too_many_determined : Determined ℕ Bool TooMany (λ _ a. a.0) (λ _ r s. r)
+too_many_determined = same too_many (λ _ a r s p. p)
+
 pub within_determined : Determined (Float × Float × Float) Bool Within (λ _ a. (a.0, a.1.0, a.1.1.0)) (λ _ r s. r)
 within_determined = same (λ x. within x.0 x.1 x.2) (λ _ a r s p. p)
 
 pub places_for_determined : Determined ℕ ℕ PlacesFor (λ _ a. a.0) (λ _ r s. r)
 places_for_determined = same places_for (λ _ a r s p. p)
-
-pub bad_points_determined : Determined (List ℤ) Bool BadPoints (λ _ a. a.0.now) (λ _ r s. r)
-bad_points_determined = same bad_points (λ _ a r s p. p)
-
-pub bad_points_f64_determined : Determined (List Float) Bool BadPointsF64 (λ _ a. a.0.now) (λ _ r s. r)
-bad_points_f64_determined = same bad_points_f64 (λ _ a r s p. p)
 
 pub bad_tolerance_determined : Determined Float Bool BadTolerance (λ _ a. a.0) (λ _ r s. r)
 bad_tolerance_determined = same bad_tolerance (λ _ a r s p. p)
@@ -95,7 +99,7 @@ bad_sq_tolerance_determined = same bad_sq_tolerance (λ _ a r s p. p)
 pub bad_flags_determined : Determined (List ℕ × ℕ) Bool BadFlags (λ _ a. (a.0.now, a.1.0)) (λ _ r s. r)
 bad_flags_determined = same (λ x. bad_flags x.1 x.0) (λ _ a r s p. p)
 
-pub judge_determined : Determined (List ℤ × ℕ) Verdict Judge (λ _ a. (a.0.now, a.1.0)) (λ _ r s. r)
+pub judge_determined : Determined (List ℤ × ℕ) (Result Unit Refusal) Judge (λ _ a. (a.0.now, a.1.0)) (λ _ r s. r)
 judge_determined = same (λ x. verdict (refusal x.0 x.1)) (λ _ a r s p. p)
 
 pub point_at_determined : Determined (List ℤ × ℕ) PointI32 PointAt (λ _ a. (a.0.now, a.1.0)) (λ _ r s. r)
@@ -119,19 +123,18 @@ module _ {A : Type 0} (fine : A → Bool) (xs : List A) (good : bad_list fine xs
   -- It has whole points.
   pub whole_points : length xs % 2 ≡ 0
   unfolding bad_list
-  whole_points = eqb-true (length xs % 2) 0 (neither (eqb (length xs % 2) 0) (every fine xs) good).0
+  whole_points = eqb-true (length xs % 2) 0 (neither (eqb (length xs % 2) 0) (list_all fine xs) good).0
 
   -- Each of its values passes the test.
-  pub all_fine : every fine xs ≡ true
+  pub all_fine : list_all fine xs ≡ true
   unfolding bad_list
-  all_fine = (neither (eqb (length xs % 2) 0) (every fine xs) good).1
+  all_fine = (neither (eqb (length xs % 2) 0) (list_all fine xs) good).1
 
 -- A test of every value holds of the value at each place; past the end stands a value of one's own, of which it holds too.
-pub every_at : {A : Type 0} (fine : A → Bool) (xs : List A) (d : A) → every fine xs ≡ true → fine d ≡ true → (k : ℕ) → fine (get_or xs k d) ≡ true
-unfolding every
+pub every_at : {A : Type 0} (fine : A → Bool) (xs : List A) (d : A) → list_all fine xs ≡ true → fine d ≡ true → (k : ℕ) → fine (get_or xs k d) ≡ true
 every_at fine [] d e f k = f
-every_at fine (x ∷ xs) d e f zero = (both_true (fine x) (every fine xs) e).0
-every_at fine (x ∷ xs) d e f (suc k) = every_at fine xs d (both_true (fine x) (every fine xs) e).1 f k
+every_at fine (x ∷ xs) d e f zero = (both_true (fine x) (list_all fine xs) e).0
+every_at fine (x ∷ xs) d e f (suc k) = every_at fine xs d (both_true (fine x) (list_all fine xs) e).1 f k
 
 -- A coordinate that is in range lies within 16,383 of zero.
 pub in_range_abs : (v : ℤ) → in_range v ≡ true → nat_abs v ≤ 16383
@@ -144,22 +147,15 @@ coordinates_fit xs good k =
 
 -- ---- a refusal changes nothing, whatever was lent
 
--- where what is done is no refusal, by whatever answer
-pub refusal_leaves_all : {A B : Type 0} (refused : Refusal → A) (o : Option Refusal) (old : B) (done : Outcome A B) (r : Refusal) →
-    (done.answer ≡ refused r → ⊥) → (outcome refused o old done).answer ≡ refused r → (outcome refused o old done).out ≡ old
+pub refusal_changes_nothing : {A B : Type 0} (o : Option Refusal) (old : B) (done : Outcome (Result A Refusal) B) (x : A) → done.answer ≡ Ok x →
+    (r : Refusal) → (outcome o old done).answer ≡ Err r → (outcome o old done).out ≡ old
 unfolding outcome
-refusal_leaves_all refused (some q) old done r never e = refl
-refusal_leaves_all refused none old done r never e = absurd (never e)
-
-pub refusal_changes_nothing : {B : Type 0} (o : Option Refusal) (old : B) (done : Outcome Answer B) (n : ℕ) → done.answer ≡ Done n →
-    (r : Refusal) → (outcome Refused o old done).answer ≡ Refused r → (outcome Refused o old done).out ≡ old
-refusal_changes_nothing o old done n d r =
-    refusal_leaves_all Refused o old done r
-    (λ e. let f : Done n ≡ Refused r = sym d ∙ e in let z : ◌≡◌ {A = ℕ} 0 1 = cc in omega arith)
+refusal_changes_nothing (some q) old done x d r e = refl
+refusal_changes_nothing {A} none old done x d r e = let f : ◌≡◌ {A = Result A Refusal} (Ok x) (Err r) = sym d ∙ e in let z : ◌≡◌ {A = ℕ} 0 1 = cc in absurd (omega arith)
 
 -- ---- a call that hands out points for a list of points
 
-pub passed_unchanged : (list : List ℤ) (ps : List PointI32) (out : List ℤ) (r : Refusal) → (passed list ps out).answer ≡ Refused r → (passed list ps out).out ≡ out
+pub passed_unchanged : (list : List ℤ) (ps : List PointI32) (out : List ℤ) (r : Refusal) → (passed list ps out).answer ≡ Err r → (passed list ps out).out ≡ out
 unfolding passed
 passed_unchanged list ps out r = refusal_changes_nothing (refusal list (length out)) out (handed ps out) (length ps) refl r
 
@@ -172,7 +168,7 @@ pub passed_fitting : (list : List ℤ) (ps : List PointI32) (out : List ℤ) →
 unfolding passed
 passed_fitting list ps out h = by (refusal list (length out)) h
   where
-    by : (o : Option Refusal) → (o ≡ none → length ps * 2 ≤ length out) → Fitting (outcome Refused o out (handed ps out)) out
+    by : (o : Option Refusal) → (o ≡ none → length ps * 2 ≤ length out) → Fitting (outcome o out (handed ps out)) out
     by (some q) h = record { counted = omega arith; long = refl }
     by none h =
         let k : length ps * 2 ≤ length out = h refl in

@@ -9,10 +9,10 @@ use lib.Dec.{ltb}
 use lib.IntN.{ℤ}
 use lib.ListN.{length}
 use borrow.Author.Tests.{ltb-false, le-ltb}
+use Rattle.std.specs.Prelude.{Result, Ok, Err}
 use Rattle.point.specs.Limits.{too_many, in_range, bad_points, places_for}
 use Rattle.point.specs.Refusals.{refuse◌when◌or◌}
 use Rattle.point.specs.declared.PointI32.{PointI32}
-use Rattle.point.specs.declared.refusal.Answer.TheVariants.{Done, Refused}
 use Rattle.point.specs.declared.refusal.Refusal.{Refusal}
 use Rattle.point.specs.declared.refusal.Refusal.TheVariants.{TooMany, BadPoint, NoRoom}
 use Rattle.point.proofs.Claims.{whole_points}
@@ -20,14 +20,12 @@ use Rattle.point.specs.Points.{count}
 use Rattle.point.specs.inside.Written.{Handed}
 use Rattle.point.proofs.Room.{places_bounds}
 use Rattle.point.specs.Outcomes.{refusal, verdict, passed}
-use Rattle.point.specs.declared.refusal.Verdict.{Verdict}
-use Rattle.point.specs.declared.refusal.Verdict.TheVariants.{Fine, Refused as Refused'}
 
-pub refused_is : (v : Verdict) (o : Option Refusal) (r : Refusal) → v ≡ verdict o → v ≡ Refused' r → o ≡ some r
+pub refused_is : (v : Result Unit Refusal) (o : Option Refusal) (r : Refusal) → v ≡ verdict o → v ≡ Err r → o ≡ some r
 refused_is v (some q) r e f = cc
 refused_is v none r e f = cc
 
-pub fine_is : (v : Verdict) (o : Option Refusal) → v ≡ verdict o → v ≡ Fine → o ≡ none
+pub fine_is : (v : Result Unit Refusal) (o : Option Refusal) → v ≡ verdict o → v ≡ Ok tt → o ≡ none
 fine_is v (some q) e f = cc
 fine_is v none e f = refl
 
@@ -41,8 +39,8 @@ pub not_refused : (list : List ℤ) (room : ℕ) → length list ≤ 8192 → ba
 not_refused list room few good places =
     rw (le-ltb 8192 (length list) few, good, le-ltb room (places_for (count list) * 2) places)
 
-module _ (list : List ℤ) (room : ℕ) (v : Verdict) (says : v ≡ verdict (refusal list room)) where
-  module _ (fine : v ≡ Fine) where
+module _ (list : List ℤ) (room : ℕ) (v : Result Unit Refusal) (says : v ≡ verdict (refusal list room)) where
+  module _ (fine : v ≡ Ok tt) where
     abbrev no_room : Bool
     no_room = ltb room (places_for (count list) * 2)
 
@@ -66,12 +64,12 @@ module _ (list : List ℤ) (room : ℕ) (v : Verdict) (says : v ≡ verdict (ref
     pub list_fits : length list ≤ room
     list_fits = omega (arith, places, places_bounds (count list), whole_points in_range list good)
 
-module _ (list out : List ℤ) (v : Verdict) (says : v ≡ verdict (refusal list (length out))) (ps : List PointI32) where
-  pub refused_outcome : (r : Refusal) → v ≡ Refused' r → record { answer = Refused r; out = out } ≡ passed list ps out
+module _ (list out : List ℤ) (v : Result Unit Refusal) (says : v ≡ verdict (refusal list (length out))) (ps : List PointI32) where
+  pub refused_outcome : (r : Refusal) → v ≡ Err r → record { answer = Err r; out = out } ≡ passed list ps out
   unfolding passed
   refused_outcome r e = rw (refused_is v (refusal list (length out)) r says e)
 
-  pub handed_outcome : v ≡ Fine → (n : ℕ) (last : List ℤ) → Handed ps out n last →
-      record { answer = Done n; out = last } ≡ passed list ps out
+  pub handed_outcome : v ≡ Ok tt → (n : ℕ) (last : List ℤ) → Handed ps out n last →
+      record { answer = Ok n; out = last } ≡ passed list ps out
   unfolding passed
   handed_outcome e n last h = rw (fine_is v (refusal list (length out)) says e, h.counted, h.written)

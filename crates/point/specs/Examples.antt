@@ -1,10 +1,9 @@
 -- Worked examples: antt computes each, so `refl` proves it.
-use Rattle.std.specs.Prelude.{true, false, ◌≡◌, refl, [], ◌∷◌, pos, negsuc, set}
+use Rattle.std.specs.Prelude.{true, false, ◌≡◌, refl, [], ◌∷◌, ℕ, pos, negsuc, set, Err}
 use Rattle.std.proofs.Math.Option.{some, none}
 use Rattle.std.specs.Float.{binary64, nan, fin}
 use Rattle.std.specs.Float.Ieee.{of_int, of_bits, le}
 use Rattle.point.specs.Refusals.{refuse◌when◌or◌, number_of, count_of}
-use Rattle.point.specs.declared.refusal.Answer.TheVariants.{Refused}
 use Rattle.point.specs.declared.refusal.Refusal.TheVariants.{TooMany, BadPoint, NoRoom, BadFrame, BadPicture}
 use Rattle.point.specs.Limits.{bad_list, bad_points, bad_points_f64, bad_tolerance, bad_sq_tolerance}
 use Rattle.point.specs.Points.{count, point_at, seen}
@@ -13,13 +12,13 @@ use Rattle.point.specs.Points.{count, point_at, seen}
 lowest : refuse TooMany when false or refuse BadPoint when true or refuse NoRoom when true or none ≡ some BadPoint
 lowest = refl
 
-no_frame_is_11 : number_of (Refused BadFrame) ≡ 11
+no_frame_is_11 : number_of {A = ℕ} (Err BadFrame) ≡ 11
 no_frame_is_11 = refl
 
-no_picture_is_12 : number_of (Refused BadPicture) ≡ 12
+no_picture_is_12 : number_of {A = ℕ} (Err BadPicture) ≡ 12
 no_picture_is_12 = refl
 
-refused_counts_none : count_of (Refused NoRoom) ≡ 0
+refused_counts_none : count_of (Err NoRoom) ≡ 0
 refused_counts_none = refl
 
 farthest : bad_points (pos 16383 ∷ negsuc 16382 ∷ []) ≡ false

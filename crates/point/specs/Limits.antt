@@ -1,15 +1,11 @@
 -- Document 01, "Sizes": the limits of what a call is handed. Each test is true where the limit is passed.
-use Rattle.std.specs.Prelude.{ℕ, ◌%◌, Bool, true, not, ◌&&◌, ◌||◌, List, [], ◌∷◌, ltb, leb, eqb, ℤ, pos, negsuc, length, Float, if◌then◌else◌}
+use Rattle.std.specs.Prelude.{ℕ, ◌%◌, Bool, not, ◌&&◌, ◌||◌, List, ltb, leb, eqb, ℤ, pos, negsuc, length, Float, if◌then◌else◌}
+use Rattle.std.specs.List.{list_all}
 use Rattle.std.specs.Int.Signed.{le_z}
 use Rattle.std.specs.Float.{binary64}
 use Rattle.std.specs.Float.Ieee.{of_int, le}
 use Rattle.point.specs.declared.PointF64.{PointF64}
 use Rattle.point.specs.declared.PointI32.{PointI32}
-
--- a test holds of every value of a list
-unfoldable pub every : {A : Type 0} → (A → Bool) → List A → Bool
-every p [] = true
-every p (x ∷ xs) = p x && every p xs
 
 -- "at most 4,096 points": so many values are more than 8,192
 abbrev pub too_many : ℕ → Bool
@@ -24,8 +20,7 @@ point_in_range p = in_range p.x && in_range p.y
 
 -- "odd count of values, or a coordinate out of range"
 unfoldable pub bad_list : {A : Type 0} → (A → Bool) → List A → Bool
-unfolding every
-bad_list fine values = not (eqb (length values % 2) 0) || not (every fine values)
+bad_list fine values = not (eqb (length values % 2) 0) || not (list_all fine values)
 
 abbrev pub bad_points : List ℤ → Bool
 bad_points points = bad_list in_range points
@@ -35,7 +30,7 @@ abbrev pub is_flag : ℕ → Bool
 is_flag v = leb v 1
 
 abbrev pub bad_flags : ℕ → List ℕ → Bool
-bad_flags m flags = not (eqb (length flags) m) || not (every is_flag flags)
+bad_flags m flags = not (eqb (length flags) m) || not (list_all is_flag flags)
 
 -- from low to high, both counted in, by the comparisons of IEEE 754: of a NaN it is false, and -0 counts as 0
 abbrev pub within : Float → Float → Float → Bool

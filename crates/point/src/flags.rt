@@ -1,29 +1,20 @@
 // Flags: a byte for each point, 0 or 1.
 ghost use Rattle.std.specs.Prelude.{◌≡◌};
-ghost use Rattle.point.specs.Limits.{every, is_flag, bad_flags};
+ghost use Rattle.std.specs.List.{list_all};
+ghost use Rattle.point.specs.Limits.{is_flag, bad_flags};
 
 // Whether there are not `m` flags, or one is neither 0 nor 1.
 pub fn bad_flags(flags: &[u8], m: usize) -> bool
     ensures { result ≡ bad_flags m flags.now }
 {
-    if flags.len() != m {
-        return true;
-    }
-    !all_flags(flags)
+    flags.len() != m || !all_flags(flags)
 }
 
 // Whether every flag is 0 or 1.
 fn all_flags(flags: &[u8]) -> bool
-    ensures { result ≡ every is_flag flags.now }
+    ensures { result ≡ list_all is_flag flags.now }
 {
-    let mut i = 0;
-    while i < flags.len() {
-        if !is_flag(flags[i]) {
-            return false;
-        }
-        i += 1;
-    }
-    true
+    flags.iter().all(|flag| is_flag(*flag))
 }
 
 // Whether a flag is 0 or 1.

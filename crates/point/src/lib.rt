@@ -12,22 +12,22 @@ mod vector;
 
 pub use flags::bad_flags;
 pub use limits::{
-    bad_points, bad_points_f64, bad_sq_tolerance, bad_tolerance, in_range, in_range_f64, judge,
-    places_for, point_in_range, point_in_range_f64, too_many, within,
+    Ranged, bad_points, bad_sq_tolerance, bad_tolerance, judge, judge_points, places_for, too_many,
+    within,
 };
 pub use list::{point_at, put, seen};
-pub use refusal::{Answer, Refusal, Verdict};
+pub use refusal::{Refusal, number};
 pub use vector::same_point;
 
 // A point of a chart or an outline, in pixels, y down.
-#[derive(Clone, Copy)]
+#[derive(Clone, Copy, PartialEq, Eq)]
 pub struct PointI32 {
     pub x: i32,
     pub y: i32,
 }
 
-// A point with fractions.
-#[derive(Clone, Copy)]
+// A point with fractions. (Two structs, as document 01 names them, and not one over a type.)
+#[derive(Clone, Copy, PartialEq)]
 pub struct PointF64 {
     pub x: f64,
     pub y: f64,

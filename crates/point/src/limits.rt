@@ -1,9 +1,9 @@
 // The tests that every call makes of what it is handed.
-ghost use Rattle.std.specs.Prelude.{◌≡◌};
-ghost use Rattle.point.specs.Limits.{too_many, in_range, point_in_range, within, in_range_f64, point_in_range_f64, bad_points, bad_points_f64, bad_tolerance, bad_sq_tolerance, places_for};
-ghost use Rattle.point.specs.Outcomes.{refusal, verdict};
+ghost use Rattle.std.specs.Prelude.{◌≡◌, Bool};
+ghost use Rattle.point.specs.Limits.{too_many, in_range, point_in_range, within, in_range_f64, point_in_range_f64, bad_list, bad_tolerance, bad_sq_tolerance, places_for};
+ghost use Rattle.point.specs.Outcomes.{list_refusal, refusal, verdict};
 
-use crate::refusal::{Refusal, Verdict};
+use crate::refusal::Refusal;
 use crate::{PointF64, PointI32};
 
 // A list of points is at most 4,096 points long: x, y, x, y.
@@ -28,39 +28,20 @@ pub fn too_many(values: usize) -> bool
 
 // Whether a list has half a point, or a coordinate out of range. It looks at all of a list, whatever it
 // finds: so a processor can look at several at once.
-pub fn bad_points(points: &[i32]) -> bool
-    ensures { result ≡ bad_points points.now }
+pub fn bad_points<C: Ranged>(points: &[C]) -> bool
+    ensures { result ≡ bad_list C.fits points.now }
 {
     if points.len() % 2 != 0 {
         return true;
     }
     let mut fine = true;
-    let mut i = 0;
-    while i < points.len() {
-        fine = fine & in_range(points[i]);
-        i += 1;
+    for value in points {
+        fine &= value.in_range();
     }
     !fine
 }
 
-// Whether a list of points with fractions has half a point, or a coordinate out of range, NaN or infinite.
-// It looks at all of the list, as `bad_points` does.
-pub fn bad_points_f64(points: &[f64]) -> bool
-    ensures { result ≡ bad_points_f64 points.now }
-{
-    if points.len() % 2 != 0 {
-        return true;
-    }
-    let mut fine = true;
-    let mut i = 0;
-    while i < points.len() {
-        fine = fine & in_range_f64(points[i]);
-        i += 1;
-    }
-    !fine
-}
-
-// Whether a tolerance is NaN or out of range.
+// Whether a tolerance is NaN or out of range. (Two calls for two limits: each is one test.)
 pub fn bad_tolerance(tolerance: f64) -> bool
     ensures { result ≡ bad_tolerance tolerance }
 {
@@ -82,32 +63,45 @@ pub fn places_for(points: usize) -> usize
     if points == 1 { 2 } else { points }
 }
 
-// Whether a coordinate is in range.
-pub fn in_range(value: i32) -> bool
-    ensures { result ≡ in_range value }
-{
-    -FARTHEST <= value && value <= FARTHEST
+// What may lie out of range: a coordinate, and a point by both of its coordinates.
+pub trait Ranged: Copy {
+    ghost fits: { Self → Bool };
+
+    // Whether it is in range. A NaN and an infinity are not.
+    fn in_range(self) -> bool
+        ensures { result ≡ fits self };
 }
 
-// Whether a coordinate with a fraction is in range. A NaN and an infinity are not.
-pub fn in_range_f64(value: f64) -> bool
-    ensures { result ≡ in_range_f64 value }
-{
-    within(-FARTHEST_F64, value, FARTHEST_F64)
+impl Ranged for i32 {
+    ghost fits = { in_range };
+
+    fn in_range(self) -> bool {
+        -FARTHEST <= self && self <= FARTHEST
+    }
 }
 
-// Whether both coordinates of a point are in range.
-pub fn point_in_range(p: PointI32) -> bool
-    ensures { result ≡ point_in_range p }
-{
-    in_range(p.x) && in_range(p.y)
+impl Ranged for f64 {
+    ghost fits = { in_range_f64 };
+
+    fn in_range(self) -> bool {
+        within(-FARTHEST_F64, self, FARTHEST_F64)
+    }
 }
 
-// Whether both coordinates of a point with fractions are in range.
-pub fn point_in_range_f64(p: PointF64) -> bool
-    ensures { result ≡ point_in_range_f64 p }
-{
-    in_range_f64(p.x) && in_range_f64(p.y)
+impl Ranged for PointI32 {
+    ghost fits = { point_in_range };
+
+    fn in_range(self) -> bool {
+        self.x.in_range() && self.y.in_range()
+    }
+}
+
+impl Ranged for PointF64 {
+    ghost fits = { point_in_range_f64 };
+
+    fn in_range(self) -> bool {
+        self.x.in_range() && self.y.in_range()
+    }
 }
 
 // From `low` to `high`, both counted in. Of a NaN it is false.
@@ -117,18 +111,26 @@ pub fn within(low: f64, value: f64, high: f64) -> bool
     low <= value && value <= high
 }
 
-// The lowest refusal that applies to a list and to the room for its answer, in values.
-pub fn judge(points: &[i32], room: usize) -> Verdict
-    ensures { result ≡ verdict (refusal points.now room) }
+// The lowest refusal that applies to a list of points.
+pub fn judge_points<C: Ranged>(points: &[C]) -> Result<(), Refusal>
+    ensures { result ≡ verdict (list_refusal C.fits points.now) }
 {
     if too_many(points.len()) {
-        return Verdict::Refused(Refusal::TooMany);
+        return Err(Refusal::TooMany);
     }
     if bad_points(points) {
-        return Verdict::Refused(Refusal::BadPoint);
+        return Err(Refusal::BadPoint);
     }
+    Ok(())
+}
+
+// The lowest refusal that applies to a list and to the room for its answer, in values.
+pub fn judge(points: &[i32], room: usize) -> Result<(), Refusal>
+    ensures { result ≡ verdict (refusal points.now room) }
+{
+    judge_points(points)?;
     if room < places_for(points.len() / 2) * 2 {
-        return Verdict::Refused(Refusal::NoRoom);
+        return Err(Refusal::NoRoom);
     }
-    Verdict::Fine
+    Ok(())
 }

@@ -1,10 +1,9 @@
-// Why a call refuses, what it answers otherwise, and the numbers of both.
+// Why a call hands out nothing, and the numbers of document 01.
 ghost use Rattle.std.specs.Prelude.{◌≡◌};
-ghost use Rattle.point.specs.Refusals.{refusal_number, number_of, count_of};
+ghost use Rattle.point.specs.Refusals.{refusal_number, number_of};
 
-// Why a call refuses. The lowest that applies is given, and no lent buffer is changed. That a chart has no way
-// to go (8), and that a walk is stuck (9), is no refusal: the calls that find it answer it by cases of their own.
-#[derive(Clone, Copy)]
+// The lowest that applies is given, and no lent buffer is changed.
+#[derive(Clone, Copy, PartialEq, Eq)]
 pub enum Refusal {
     // A chart's size, a spiral's size or a field of its state is out of range, or the pixels are too few.
     BadSize,
@@ -20,6 +19,10 @@ pub enum Refusal {
     BadFlags,
     // A ratio, a length or a pair is out of range or NaN.
     BadSettings,
+    // The start of a walk has no exit, or a chart is blank.
+    NoWay,
+    // After some run a walk has over 1,000,000 steps.
+    Stuck,
     // A lent buffer is too short.
     NoRoom,
     // A line is no frame.
@@ -28,23 +31,8 @@ pub enum Refusal {
     BadPicture,
 }
 
-// The answer of a call that fills a lent buffer: how many points it put there (of a picture, bytes), or why it
-// put none.
-#[derive(Clone, Copy)]
-pub enum Answer {
-    Done(usize),
-    Refused(Refusal),
-}
-
-// Whether a call goes on, once its tests are made.
-#[derive(Clone, Copy)]
-pub enum Verdict {
-    Fine,
-    Refused(Refusal),
-}
-
 impl Refusal {
-    // The refusal's number in document 01.
+    // The refusal's number in document 01. (A match and no discriminants: the table reads as document 01 has it.)
     pub fn number(self) -> u8
         ensures { result ≡ refusal_number self }
     {
@@ -56,6 +44,8 @@ impl Refusal {
             Refusal::BadTolerance => 5,
             Refusal::BadFlags => 6,
             Refusal::BadSettings => 7,
+            Refusal::NoWay => 8,
+            Refusal::Stuck => 9,
             Refusal::NoRoom => 10,
             Refusal::BadFrame => 11,
             Refusal::BadPicture => 12,
@@ -63,24 +53,12 @@ impl Refusal {
     }
 }
 
-impl Answer {
-    // The answer's number in document 01: 0 when it is done.
-    pub fn number(self) -> u8
-        ensures { result ≡ number_of self }
-    {
-        match self {
-            Answer::Done(_) => 0,
-            Answer::Refused(refusal) => refusal.number(),
-        }
-    }
-
-    // How many points it handed out: none when it refused.
-    pub fn count(self) -> usize
-        ensures { result ≡ count_of self }
-    {
-        match self {
-            Answer::Done(points) => points,
-            Answer::Refused(_) => 0,
-        }
+// The number of an answer in document 01: 0 when the call is done.
+pub fn number<T: Copy>(answer: Result<T, Refusal>) -> u8
+    ensures { result ≡ number_of answer }
+{
+    match answer {
+        Ok(_) => 0,
+        Err(refusal) => refusal.number(),
     }
 }

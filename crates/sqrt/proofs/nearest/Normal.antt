@@ -8,6 +8,7 @@ use lib.Ieee.{binary64, to_bits, of_bits}
 use lib.Pow.{pow-add, pow_mono, pow_pos, shl_lt}
 use Rattle.sqrt.specs.inside.Whole.{NearestWhole}
 use Rattle.sqrt.specs.Root.{nearest_root, root_bits}
+use Rattle.sqrt.proofs.CorrectlyRounded.{zero_itself, root_of_no_number}
 use Rattle.sqrt.proofs.nearest.Patterns.{bits_of_root, root_of_units, reads_normal}
 
 -- m, shifted by what e leaves of a division by 1 or 2: no bit is shifted out
@@ -58,3 +59,8 @@ module _ (b : ℕ) (normal : 2 ^ 52 ≤ b) (finite : b < 0x7ff0000000000000) whe
       (sym
       (root_of_units binary64 (m * 2 ^ x) (mul-pos (omega arith) (pow_pos x)) (of_bits binary64 b)
       (reads_normal binary64 b x (omega arith) field (omega arith))))
+
+-- for the proofs of the functions
+pub ruleset shifts = (shifted_long, shifted_short)
+
+pub ruleset of_patterns = (zero_itself, root_of_no_number, root_of_normal)

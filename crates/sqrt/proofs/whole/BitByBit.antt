@@ -27,6 +27,14 @@ pub record Tried (n twice left bit : ℕ) : Type 0 where
   pub doubled : twice ≡ root * 2
   pub found : Found n root (left * bit) bit
 
+-- before the first turn the leading bit is set
+pub started : (n : ℕ) → 2 ^ 52 ≤ n → n < 2 ^ 54 → Tried (n * 2 ^ 52) (2 ^ 53) (n - 2 ^ 52) (2 ^ 52)
+started n long short =
+    record { place = 52; power = refl; root = 2 ^ 52; doubled = refl; found = found }
+  where
+    found : Found (n * 2 ^ 52) (2 ^ 52) ((n - 2 ^ 52) * 2 ^ 52) (2 ^ 52)
+    found = record { square = omega arith; near = omega arith }
+
 module _ (n twice left bit : ℕ) (so_far : Tried n twice left bit) where
   pub bit_positive : 0 < bit
   bit_positive = rw so_far.power (pow_pos so_far.place)
@@ -104,3 +112,6 @@ module _ (n root left : ℕ) (found : Found n root left 1) where
       by_root : (root : ℕ) → root * root + left ≡ n → left ≤ root → NearestWhole n root
       by_root zero e h = omega arith
       by_root (suc root) e h = omega arith
+
+-- for the proof of `rounded_root`
+pub ruleset tries = (started, bit_positive, left_small, is_set, is_clear, all_tried, rounds_up, rounds_down)
