@@ -107,11 +107,6 @@ module _ (s : State) (most : ℕ) (b last : List ℕ) (t : Turn) (next : State) 
   pub read_starts : (at : ℕ) → t ≡ Turn.Read at next → at ≤ length last
   read_starts at k = (asked (Turn.Read at next) k).0
 
--- ---- what waits lies in an output of `m` bytes
-
-pub begin_waits : (s : State) (m : ℕ) → s ≡ begun → s.waiting ≤ m
-begin_waits s m e = rw e (omega arith)
-
 -- ---- a program's step
 
 -- What a step asks for lies in its buffers, of `n` and `m` bytes, and so does what waits behind it.

@@ -9,6 +9,7 @@ use lib.Dec.{ltb, eqb}
 use lib.ListN.{length, take, drop, length-append, length-drop}
 use lib.Seq.{length-take-le, take_at, drop_at, append_snoc}
 use borrow.Author.Tests.{ltb-true, ltb-false, eqb-true, eqb-false}
+use Rattle.std.proofs.lemmas.List.{nil_from_length}
 use Rattle.words.specs.Line.{up_to}
 use Rattle.words.proofs.Splits.{up_to_le}
 use Rattle.laws.proofs.Joined.{both_false, or_second}
@@ -20,10 +21,6 @@ use Rattle.lines.specs.declared.reader.Taken.{Taken}
 use Rattle.lines.specs.declared.reader.Taken.TheVariants.{Line, More, End}
 use Rattle.lines.proofs.Newlines.{Free, free_before, cut_there, free_all}
 use Rattle.lines.proofs.Phases.{line_bytes}
-
-pub empty : (l : List ℕ) → length l ≡ 0 → l ≡ []
-empty [] e = refl
-empty (x ∷ l) e = absurd (omega arith)
 
 -- a part of a list, by its ends
 cut_out : (b x y z : List ℕ) (from to : ℕ) → b ≡ x ++ (y ++ z) → from ≡ length x → to ≡ length x + length y → take (to - from) (drop from b) ≡ y
@@ -136,7 +133,7 @@ module _ (r : Reader) (b c u : List ℕ) (over long : Bool) (h : Holds r b c u o
       (λ g. omega (arith, held_size, ltb-true r.start r.end (or_second r.long (ltb r.start r.end) (h.long_is ∙ g) ∙ t))) k
       (past_it (c ++ u) [] r.end (sym (append-nil (c ++ u))) (omega (arith, h.ends, length-append c u)))))
       (λ t. let both : (r.long ≡ false) × (ltb r.start r.end ≡ false) = both_false r.long (ltb r.start r.end) t in
-      none_left (sym h.over_is ∙ o) (sym h.long_is ∙ both.0) (empty (c ++ u) (omega (arith, held_size, ltb-false r.start r.end both.1))))
+      none_left (sym h.over_is ∙ o) (sym h.long_is ∙ both.0) (nil_from_length (c ++ u) (omega (arith, held_size, ltb-false r.start r.end both.1))))
 
   to_be_read : r.over ≡ false → Free u → Took b c u over long (refill r b)
   unfolding refill
@@ -179,7 +176,7 @@ pub fed_holds : (r : Reader) (b c got : List ℕ) (over long : Bool) (at : ℕ) 
     at + length got ≤ length b → length b ≤ 18446744073709551615 →
     Holds (fed_reader r (length got)) (take at b ++ got ++ drop (at + length got) b) c got (eqb (length got) 0) long
 fed_holds r b c got over long at h o z p room small =
-    let none : h.gone ≡ [] = empty h.gone (omega (arith, z, h.starts)) in
+    let none : h.gone ≡ [] = nil_from_length h.gone (omega (arith, z, h.starts)) in
     let front : take at b ≡ c = ap (take at) (h.is ∙ ap (λ (k : List ℕ). k ++ (c ++ h.behind)) none) ∙ take_at c h.behind at (sym p) in
     record {
       gone = [];

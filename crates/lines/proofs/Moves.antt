@@ -9,6 +9,7 @@ use lib.Dec.{eqb}
 use lib.ListN.{length, take, drop, length-append, length-take, length-drop}
 use lib.Seq.{length-take-le, take_at}
 use borrow.Author.Tests.{eqb-true}
+use Rattle.std.proofs.lemmas.List.{nil_from_length}
 use Rattle.texts.specs.Put.{put}
 use Rattle.texts.proofs.Pieces.{put_fits}
 use Rattle.lines.specs.Turns.{answered_state, line}
@@ -19,7 +20,7 @@ use Rattle.lines.proofs.TurnsLeft.{to_read, to_drop, turns_to, last_read}
 use Rattle.lines.proofs.Newlines.{Free}
 use Rattle.lines.proofs.Phases as Phases
 use Rattle.lines.proofs.Phases.{Phase}
-use Rattle.lines.proofs.Held.{empty, Holds, fed_holds}
+use Rattle.lines.proofs.Held.{Holds, fed_holds}
 
 -- what came, and what is left of it
 rejoined : (k : ℕ) (l : List ℕ) → take k l ++ drop (length (take k l)) l ≡ l
@@ -160,7 +161,7 @@ module _ (answer : List ℕ → List ℕ) (most : ℕ) (sizes : ℕ → ℕ) (in
         )
 
     none_came : eqb (length got) 0 ≡ true → drop (length got) m.text ≡ []
-    none_came e = empty (drop (length got) m.text) (omega (arith, eqb-true (length got) 0 e, left_size, got_size, b.in_size))
+    none_came e = nil_from_length (drop (length got) m.text) (omega (arith, eqb-true (length got) 0 e, left_size, got_size, b.in_size))
 
     came_on : Phase answer (length input) text (eqb (length got) 0) long (c ++ got) (drop (length got) m.text) (m.written ++ [])
     came_on =

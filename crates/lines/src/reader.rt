@@ -1,5 +1,5 @@
 // A line at a time, out of a buffer that is refilled.
-ghost use Rattle.std.specs.Prelude.{◌≡◌, ◌≤◌, min, max};
+ghost use Rattle.std.specs.Prelude.{◌≡◌, ◌≤◌};
 ghost use Rattle.lines.specs.Reader.{fresh_reader, fed_reader, in_order, line_ends, input_ends, taken};
 
 use crate::refill::make_room;
@@ -52,22 +52,21 @@ pub(crate) fn fed(r: Reader, got: usize) -> Reader
     ensures { result ≡ fed_reader r got }
 {
     Reader {
-        start: r.start,
-        seen: r.seen,
-        end: r.end + least(got, usize::MAX - r.end),
+        end: r.end.saturating_add(got),
         over: got == 0 || r.over,
-        long: r.long,
+        ..r
     }
 }
 
 // The next line of the buffer, or what is to be done to get it. Places of `r` that lie outside the
 // buffer count as its end.
+#[tactic(auto, unfolding(crate::specs::Reader::took, crate::specs::Reader::taken))]
 pub(crate) fn take(r: Reader, buffer: &mut [u8]) -> Taken
     ensures { record { answer = result; out = buffer.new } ≡ taken r buffer.old }
 {
     let held = within(r, buffer.len());
     let end = held.end;
-    let at = find(&buffer[0..end], b'\n', held.seen);
+    let at = find(&buffer[..end], b'\n', held.seen);
     if at < end {
         return line(held, at, at + 1);
     }
@@ -81,15 +80,13 @@ pub(crate) fn take(r: Reader, buffer: &mut [u8]) -> Taken
 fn within(r: Reader, n: usize) -> Reader
     ensures { (result ≡ in_order r n) × (result.start ≤ result.seen) × (result.seen ≤ result.end) × (result.end ≤ n) }
 {
-    let end = least(r.end, n);
-    let start = least(r.start, end);
-    let seen = least(r.seen, end);
+    let end = r.end.min(n);
+    let start = r.start.min(end);
     Reader {
-        start: start,
-        seen: greatest(start, seen),
-        end: end,
-        over: r.over,
-        long: r.long,
+        start,
+        seen: r.seen.clamp(start, end),
+        end,
+        ..r
     }
 }
 
@@ -97,24 +94,15 @@ fn within(r: Reader, n: usize) -> Reader
 fn line(r: Reader, to: usize, next: usize) -> Taken
     ensures { result ≡ line_ends r to next }
 {
-    let past = Reader {
-        start: next,
-        seen: next,
-        end: r.end,
-        over: r.over,
-        long: false,
-    };
-    if r.long {
-        return Taken::Line {
-            from: to,
-            to: to,
-            next: past,
-        };
-    }
     Taken::Line {
-        from: r.start,
-        to: to,
-        next: past,
+        from: if r.long { to } else { r.start },
+        to,
+        next: Reader {
+            start: next,
+            seen: next,
+            long: false,
+            ..r
+        },
     }
 }
 
@@ -122,23 +110,8 @@ fn line(r: Reader, to: usize, next: usize) -> Taken
 fn last(r: Reader) -> Taken
     ensures { result ≡ input_ends r }
 {
-    if r.long {
-        return line(r, r.end, r.end);
-    }
-    if r.start < r.end {
+    if r.long || r.start < r.end {
         return line(r, r.end, r.end);
     }
     Taken::End
-}
-
-fn least(a: usize, b: usize) -> usize
-    ensures { result ≡ min a b }
-{
-    if a < b { a } else { b }
-}
-
-fn greatest(a: usize, b: usize) -> usize
-    ensures { result ≡ max a b }
-{
-    if a < b { b } else { a }
 }

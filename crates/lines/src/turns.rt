@@ -41,7 +41,7 @@ pub fn fed(s: State, got: usize) -> State
 {
     State {
         reader: fed_reader(s.reader, got),
-        waiting: s.waiting,
+        ..s
     }
 }
 
@@ -49,14 +49,11 @@ pub fn fed(s: State, got: usize) -> State
 pub fn answered(s: State, end: usize) -> State
     ensures { result ≡ answered_state s end }
 {
-    let reader = s.reader;
-    State {
-        reader: reader,
-        waiting: end,
-    }
+    State { waiting: end, ..s }
 }
 
 // What is to be done next, where another answer has room behind `most` bytes and not behind more.
+#[tactic(auto, unfolding(crate::specs::Turns::next_turn))]
 pub fn next(s: State, most: usize, input: &mut [u8]) -> Turn
     ensures { record { answer = result; out = input.new } ≡ next_turn s most input.old }
 {
@@ -72,31 +69,20 @@ fn turn_of(s: State, taken: Taken) -> Turn
 {
     match taken {
         Taken::Line { from, to, next } => Turn::Line {
-            from: from,
-            to: to,
+            from,
+            to,
+            next: State { reader: next, ..s },
+        },
+        Taken::More { next, .. } if 0 < s.waiting => write(next, s.waiting),
+        Taken::More { at, next } => Turn::Read {
+            at,
             next: State {
                 reader: next,
-                waiting: s.waiting,
+                waiting: 0,
             },
         },
-        Taken::More { at, next } => {
-            if 0 < s.waiting {
-                return write(next, s.waiting);
-            }
-            Turn::Read {
-                at: at,
-                next: State {
-                    reader: next,
-                    waiting: 0,
-                },
-            }
-        }
-        Taken::End => {
-            if s.waiting == 0 {
-                return Turn::End;
-            }
-            write(s.reader, s.waiting)
-        }
+        Taken::End if 0 < s.waiting => write(s.reader, s.waiting),
+        Taken::End => Turn::End,
     }
 }
 

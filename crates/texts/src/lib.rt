@@ -8,5 +8,4 @@ mod decimal;
 mod glyphs;
 mod put;
 
-pub use decimal::{put_decimal, put_natural};
-pub use put::{put_byte, put_bytes, put_hex};
+pub use put::Pen;

@@ -1,85 +1,91 @@
-// Text, put at a place of a buffer. Each answers the place behind it; where it does not fit, it writes
-// nothing and answers the place itself.
-ghost use Rattle.std.specs.Prelude.{◌≡◌, [], ◌∷◌, ◌++◌, ◌+◌, ◌<◌, ◌≤◌, leb, length, take, drop};
-ghost use Rattle.texts.specs.Put.{put};
+// Text, put at a place of a buffer. What does not fit is not written, and the place stays.
+ghost use Rattle.std.specs.Prelude.{◌≡◌, [], ◌∷◌, ◌+◌, ◌<◌, ◌≤◌, leb, length};
+ghost use Rattle.texts.specs.Put.{held, put_by};
 ghost use Rattle.texts.specs.Text.{low_digits, hex_text};
 
 use crate::glyphs::glyph;
 
-// One byte.
-pub fn put_byte(b: u8, out: &mut [u8], at: usize) -> usize
-    ensures { record { answer = result; out = out.new } ≡ put (b ∷ []) out.old at }
-{
-    if at < out.len() {
-        out[at] = b;
-        return at + 1;
-    }
-    at
+// A lent buffer and a place in it: what is put stands from the place on, and the place is behind it then.
+#[derive(Drop)]
+pub struct Pen<'a> {
+    pub out: &'a mut [u8],
+    pub at: usize,
 }
 
-// The bytes of a text.
-pub fn put_bytes(text: &[u8], out: &mut [u8], at: usize) -> usize
-    ensures { record { answer = result; out = out.new } ≡ put text.now out.old at }
-{
-    if has_room(text.len(), out.len(), at) {
-        copy(text, out, at);
-        return at + text.len();
+impl<'a> Pen<'a> {
+    // One byte.
+    #[tactic(auto, using(crate::proofs::Puts::set_one), unfolding(crate::specs::Put::put))]
+    pub fn put_byte(&mut self, b: u8)
+        ensures put { held self.new ≡ put_by self.old (b ∷ []) }
+        ensures same { self.new.out.ghost_name ≡ self.old.out.ghost_name }
+    {
+        if self.at < self.out.len() {
+            self.out[self.at] = b;
+            self.at += 1;
+        }
     }
-    at
+
+    // The bytes of a text.
+    #[tactic(auto, unfolding(crate::specs::Put::put))]
+    pub fn put_bytes(&mut self, text: &[u8])
+        ensures put { held self.new ≡ put_by self.old text.now }
+        ensures same { self.new.out.ghost_name ≡ self.old.out.ghost_name }
+    {
+        if self.has_room(text.len()) {
+            let end = self.at + text.len();
+            copy(text, &mut self.out[self.at..end]);
+            self.at = end;
+        }
+    }
+
+    // The lowest `digits` hexadecimal digits of `n`, in lower case, 16 of them at most.
+    pub fn put_hex(&mut self, n: u64, digits: usize)
+        ensures put { held self.new ≡ put_by self.old (hex_text digits n) }
+        ensures same { self.new.out.ghost_name ≡ self.old.out.ghost_name }
+    {
+        self.put_digits(n, 16, digits.min(16));
+    }
+
+    // Whether `n` bytes fit.
+    pub(crate) fn has_room(&self, n: usize) -> bool
+        ensures { result ≡ leb (self.now.at + n) (length self.now.out.now) }
+    {
+        self.at <= self.out.len() && n <= self.out.len() - self.at
+    }
+
+    // The lowest `k` digits of `n` in a base.
+    #[tactic(auto, using(crate::proofs::Puts::length_low_digits), unfolding(crate::specs::Put::put))]
+    pub(crate) fn put_digits(&mut self, n: u64, base: u64, k: usize)
+        requires { (0 < base) × (base ≤ 16) }
+        ensures put { held self.new ≡ put_by self.old (low_digits base k n) }
+        ensures same { self.new.out.ghost_name ≡ self.old.out.ghost_name }
+    {
+        if self.has_room(k) {
+            let end = self.at + k;
+            spell(n, base, &mut self.out[self.at..end]);
+            self.at = end;
+        }
+    }
 }
 
-// The lowest `digits` hexadecimal digits of `n`, in lower case, 16 of them at most.
-pub fn put_hex(n: u64, digits: usize, out: &mut [u8], at: usize) -> usize
-    ensures { record { answer = result; out = out.new } ≡ put (hex_text digits n) out.old at }
+// Copies a text over a part that is as long, byte by byte: `copy_from_slice` calls memmove, and the archive for C
+// calls memset alone.
+fn copy(text: &[u8], part: &mut [u8])
+    requires { length text.now ≡ length part.old }
+    ensures { part.new ≡ text.now }
 {
-    if digits < 16 {
-        return put_digits(n, 16, digits, out, at);
-    }
-    put_digits(n, 16, 16, out, at)
-}
-
-// Whether `n` bytes fit from place `at` on into a buffer of `len`.
-pub(crate) fn has_room(n: usize, len: usize, at: usize) -> bool
-    ensures { result ≡ leb (at + n) len }
-{
-    if len < at {
-        return false;
-    }
-    n <= len - at
-}
-
-fn copy(text: &[u8], out: &mut [u8], at: usize)
-    requires { at + length text.now ≤ length out.old }
-    ensures { out.new ≡ take at out.old ++ text.now ++ drop (at + length text.now) out.old }
-{
-    let mut i = 0;
-    while i < text.len() {
-        out[at + i] = text[i];
-        i += 1;
+    for i in 0..part.len() {
+        part[i] = text[i];
     }
 }
 
-// The lowest `k` digits of `n` in a base.
-pub(crate) fn put_digits(n: u64, base: u64, k: usize, out: &mut [u8], at: usize) -> usize
+// Fills `out` with the lowest digits of `n`, the last of them first.
+pub(crate) fn spell(n: u64, base: u64, out: &mut [u8])
     requires { (0 < base) × (base ≤ 16) }
-    ensures { record { answer = result; out = out.new } ≡ put (low_digits base k n) out.old at }
+    ensures { out.new ≡ low_digits base (length out.old) n }
 {
-    if has_room(k, out.len(), at) {
-        spell(n, base, k, out, at);
-        return at + k;
-    }
-    at
-}
-
-// Puts the lowest `k` digits of `n` at place `at`, the last of them first.
-pub(crate) fn spell(n: u64, base: u64, k: usize, out: &mut [u8], at: usize)
-    requires { (0 < base) × (base ≤ 16) × (at + k ≤ length out.old) }
-    ensures { out.new ≡ take at out.old ++ low_digits base k n ++ drop (at + k) out.old }
-{
-    let mut i = at + k;
     let mut rest = n;
-    while at < i {
-        i -= 1;
+    for i in (0..out.len()).rev() {
         out[i] = glyph(rest % base);
         rest /= base;
     }

@@ -2,7 +2,7 @@
 use Prim.Native.Nat.{ℕ, ◌≤◌}
 use mathlib.Core.Bool.{Bool}
 use mathlib.Core.List.{List}
-use mathlib.Core.Option.{Option, some, none}
+use Rattle.std.specs.Prelude.{Option, Some, None, ℤ}
 use mathlib.Core.Path.{◌≡◌, sym, ap, ◌∙◌}
 use native.Mathlib.Omega.{arith}
 use lib.Dec.{leb}
@@ -15,11 +15,6 @@ use Rattle.words.specs.Digits.{digit_of}
 use Rattle.words.specs.Hexadecimal.{hex_of, pattern_of}
 use Rattle.words.specs.Decimal.{integer_of, natural_of}
 use Rattle.words.specs.Bytes.{Stored, is_dash, bytes_of, pairs_of, read_into}
-use Rattle.words.specs.declared.hexadecimal.Hex.{Hex}
-use Rattle.words.specs.declared.decimal.Integer.{Integer}
-use Rattle.words.specs.declared.decimal.Natural.{Natural}
-use Rattle.words.specs.declared.bytes.Read.{Read}
-use Rattle.words.specs.declared.bytes.Read.TheVariants.{Is}
 use Rattle.words.proofs.line.find.Reads.{Post as Find}
 use Rattle.words.proofs.line.words.Reads.{Post as Words}
 use Rattle.words.proofs.line.word.Reads.{Post as Word}
@@ -44,19 +39,19 @@ words_determined = same (λ line. length (words_of line)) (λ _ a r s p. p)
 pub word_determined : Determined (List ℕ × ℕ) (List ℕ) Word (λ _ a. (a.0.now, a.1.0)) (λ _ r s. r.now)
 word_determined = same (λ x. word_of x.0 x.1) (λ _ a r s p. p)
 
-pub digit_determined : Determined ℕ ℕ Digit (λ _ a. a.0) (λ _ r s. r)
+pub digit_determined : Determined ℕ (Option ℕ) Digit (λ _ a. a.0) (λ _ r s. r)
 digit_determined = same digit_of (λ _ a r s p. p)
 
-pub read_hex_determined : Determined (List ℕ) Hex ReadHex (λ _ a. a.0.now) (λ _ r s. r)
+pub read_hex_determined : Determined (List ℕ) (Option ℕ) ReadHex (λ _ a. a.0.now) (λ _ r s. r)
 read_hex_determined = same hex_of (λ _ a r s p. p)
 
-pub read_pattern_determined : Determined (List ℕ) Hex ReadPattern (λ _ a. a.0.now) (λ _ r s. r)
+pub read_pattern_determined : Determined (List ℕ) (Option ℕ) ReadPattern (λ _ a. a.0.now) (λ _ r s. r)
 read_pattern_determined = same pattern_of (λ _ a r s p. p)
 
-pub read_natural_determined : Determined (List ℕ) Natural ReadNatural (λ _ a. a.0.now) (λ _ r s. r)
+pub read_natural_determined : Determined (List ℕ) (Option ℕ) ReadNatural (λ _ a. a.0.now) (λ _ r s. r)
 read_natural_determined = same natural_of (λ _ a r s p. p)
 
-pub read_integer_determined : Determined (List ℕ) Integer ReadInteger (λ _ a. a.0.now) (λ _ r s. r)
+pub read_integer_determined : Determined (List ℕ) (Option ℤ) ReadInteger (λ _ a. a.0.now) (λ _ r s. r)
 read_integer_determined = same integer_of (λ _ a r s p. p)
 
 pub is_dash_determined : Determined (List ℕ) Bool IsDash (λ _ a. a.0.now) (λ _ r s. r)
@@ -69,14 +64,14 @@ pub read_pairs_determined : Determined (List ℕ × List ℕ) Stored ReadPairs (
 read_pairs_determined = same (λ x. read_into (pairs_of x.0) x.1) (λ _ a r s p. p)
 
 -- What is read fits the buffer.
-fits : (xs : Option (List ℕ)) (to : List ℕ) (n : ℕ) → (read_into xs to).answer ≡ Is n → n ≤ length to
-fits none to n = λ e. let z : ◌≡◌ {A = ℕ} 0 1 = cc in absurd (omega arith)
-fits (some xs) to n =
-    if_cases (λ (o : Stored). o.answer ≡ Is n → n ≤ length to) (leb (length xs) (length to)) _ _
+fits : (xs : Option (List ℕ)) (to : List ℕ) (n : ℕ) → (read_into xs to).answer ≡ Some n → n ≤ length to
+fits None to n = λ e. cc
+fits (Some xs) to n =
+    if_cases (λ (o : Stored). o.answer ≡ Some n → n ≤ length to) (leb (length xs) (length to)) _ _
     (λ t e. let k : n ≡ length xs = cc in omega (arith, leb-true (length xs) (length to) t))
-    (λ t e. let z : ◌≡◌ {A = ℕ} 0 1 = cc in absurd (omega arith))
+    (λ t e. cc)
 
 -- What is read fits the buffer, as a caller has it at hand: of the answer `r` and the buffer's last content.
-pub read_fits : (xs : Option (List ℕ)) (to last : List ℕ) (r : Read) (n : ℕ) →
-    record { answer = r; out = last } ≡ read_into xs to → r ≡ Is n → length last ≡ length to → n ≤ length last
+pub read_fits : (xs : Option (List ℕ)) (to last : List ℕ) (r : Option ℕ) (n : ℕ) →
+    record { answer = r; out = last } ≡ read_into xs to → r ≡ Some n → length last ≡ length to → n ≤ length last
 read_fits xs to last r n e is kept = rw kept (fits xs to n (sym (ap (λ (o : Stored). o.answer) e) ∙ is))

@@ -2,3 +2,4 @@
 pub mod Claims
 pub mod Splits
 pub mod Numerals
+pub mod Pairs

@@ -1,28 +1,34 @@
-// A digit and its value.
-ghost use Rattle.std.specs.Prelude.{◌≡◌};
+// A digit and its value, and the number that digits say.
+ghost use Rattle.std.specs.Prelude.{◌≡◌, ◌<◌};
 ghost use Rattle.words.specs.Digits.{digit_of};
+ghost use Rattle.words.specs.inside.Numbers.{number_from};
 
-// The value of a digit, in either case; 16 for what is none.
-pub fn digit(b: u8) -> u64
+// The value of a digit, in either case.
+#[tactic(auto, unfolding(crate::specs::Digits::digit_of))]
+pub fn digit(b: u8) -> Option<u8>
     ensures { result ≡ digit_of b }
 {
-    if b < b'0' {
-        return 16;
+    match b {
+        b'0'..=b'9' => Some(b - b'0'),
+        b'A'..=b'F' => Some(b - b'A' + 10),
+        b'a'..=b'f' => Some(b - b'a' + 10),
+        _ => None,
     }
-    if b <= b'9' {
-        return (b - b'0') as u64;
+}
+
+// The number that any count of digits of a base say, where 64 bits hold it.
+#[tactic(auto, using(crate::proofs::Numerals::digit_laws))]
+pub(crate) fn read_digits<const BASE: u64>(word: &[u8]) -> Option<u64>
+    requires { 0 < BASE }
+    ensures { result ≡ number_from BASE 0 word.now }
+{
+    let mut n = 0u64;
+    for b in word {
+        let d = u64::from(digit(*b)?);
+        if BASE <= d {
+            return None;
+        }
+        n = n.checked_mul(BASE)?.checked_add(d)?;
     }
-    if b < b'A' {
-        return 16;
-    }
-    if b <= b'F' {
-        return (b - b'A') as u64 + 10;
-    }
-    if b < b'a' {
-        return 16;
-    }
-    if b <= b'f' {
-        return (b - b'a') as u64 + 10;
-    }
-    16
+    Some(n)
 }
