@@ -3,22 +3,22 @@ use Prim.Native.Nat.{ℕ, suc, ◌+◌, ◌-◌, ◌*◌, ◌/◌, ◌%◌, ◌^
 use mathlib.Core.Bool.{Bool, true, false, not, ◌&&◌}
 use mathlib.Core.List.{List}
 use mathlib.Core.Path.{◌≡◌, refl, sym, ap, ◌∙◌}
-use native.Mathlib.Nat.{mul-le-mul, mul-le-mul_right, mul_assoc, suc-mul, zero-div, le_of_lt}
+use native.Mathlib.Nat.{mul-le-mul, mul-le-mul_right, mul_assoc, suc-mul, le_of_lt}
 use native.Mathlib.Omega.{arith}
-use mir.Syntax.{w8, w64}
+use mir.Syntax.{w64}
 use mir.Val.{Fits}
-use lib.Dec.{leb, ltb, eqb}
+use lib.Dec.{leb, eqb}
 use lib.IntN.{ℤ, pos, ◌-ℤ◌}
-use lib.ListN.{length, get_or, get_or-eq_default}
+use lib.ListN.{length, get_or}
 use lib.Bits.{bit_and}
-use borrow.Author.Tests.{le-leb, lt-leb, lt-ltb, leb-true, ltb-true, not-true, not-false}
+use borrow.Author.Tests.{le-leb, lt-ltb, leb-true, ltb-true, not-false}
 use Rattle.laws.proofs.Joined.{both_true}
 use Rattle.laws.proofs.Bits.{digit_is}
 use Rattle.chart.specs.declared.Chart.{Chart}
 use Rattle.chart.specs.Pixels.{row_bytes, cell, has_pixel, pixel_at, one, around_of}
 use Rattle.chart.specs.inside.Around.{bit_at, pair_of, surrounded}
-use Rattle.chart.proofs.Outside.{minus_one, above}
-use Rattle.chart.proofs.Sizes.{within}
+use Rattle.chart.proofs.Outside.{minus_one, around_left_of, around_above_all}
+use Rattle.chart.proofs.Sizes.{within, within_narrow, within_column}
 
 -- ---- a place within a chart: `b` bytes to a row, column x, row y
 
@@ -58,19 +58,10 @@ module _ (c : Chart) (pixels : List ℕ) (x y : ℕ) where
       let q : (y * (row_bytes c.width * 8) + x) % 8 ≡ x % 8 = omega arith in
       rw (p, q)
 
-  module _ (r : Bool) (says : r ≡ has_pixel c x y) where
-    pub outside : not r ≡ true → false ≡ pixel_at c pixels (pos x) (pos y)
-    unfolding pixel_at
-    outside e = rw (← says, not-true r e)
-
-    module _ (fine : not r ≡ false) (b : ℕ) (bytes : b ≡ row_bytes c.width) where
-      pub past_the_end : length pixels ≤ y * b + x / 8 → false ≡ pixel_at c pixels (pos x) (pos y)
-      unfolding pixel_at
-      past_the_end h = rw (← says, not-false r fine, ← bytes, get_or-eq_default pixels 0 h, zero-div)
-
-      pub pixel_read : eqb (bit_and (get_or pixels (y * b + x / 8) 0 / 2 ^ (7 - x % 8)) 1) 1 ≡ pixel_at c pixels (pos x) (pos y)
-      unfolding pixel_at
-      pixel_read = rw (← says, not-false r fine, ← bytes, digit_is)
+  pub pixel_read : (r : Bool) → r ≡ has_pixel c x y → not r ≡ false → (b : ℕ) → b ≡ row_bytes c.width →
+      eqb (bit_and (get_or pixels (y * b + x / 8) 0 / 2 ^ (7 - x % 8)) 1) 1 ≡ pixel_at c pixels (pos x) (pos y)
+  unfolding pixel_at
+  pixel_read r says fine b bytes = rw (← says, not-false r fine, ← bytes, digit_is)
 
   at_bit : (n : ℕ) → c.width ≤ 512 → x < c.width → y < c.height → n ≡ y * (row_bytes c.width * 8) + x → pixel_at c pixels (pos x) (pos y) ≡ bit_at pixels n
   unfolding pixel_at
@@ -79,23 +70,6 @@ module _ (c : Chart) (pixels : List ℕ) (x y : ℕ) where
 -- ---- a lattice point with pixels of the chart on all sides
 
 module _ (c : Chart) (pixels : List ℕ) (x y : ℕ) where
-  pub no_left : x < 1 → false ≡ surrounded c pixels x y
-  unfolding surrounded
-  no_left h = rw (lt-leb 1 x h)
-
-  pub no_top : 1 ≤ x → y < 1 → false ≡ surrounded c pixels x y
-  unfolding surrounded
-  no_top h k = rw (le-leb 1 x h, lt-leb 1 y k)
-
-  module _ (left : 1 ≤ x) (top : 1 ≤ y) (r : Bool) (says : r ≡ has_pixel c x y) where
-    pub not_inside : not r ≡ true → false ≡ surrounded c pixels x y
-    unfolding surrounded
-    not_inside e = rw (le-leb 1 x left, le-leb 1 y top, ← says, not-true r e)
-
-    pub by_length : (b : ℕ) → not r ≡ false → b ≡ row_bytes c.width → ltb ((y * (b * 8) + x) / 8) (length pixels) ≡ surrounded c pixels x y
-    unfolding surrounded
-    by_length b e f = rw (le-leb 1 x left, le-leb 1 y top, ← says, not-false r e, f)
-
   -- what it says
   module _ (all : surrounded c pixels x y ≡ true) where
     parts : (1 ≤ x) × (1 ≤ y) × (c.width ≤ 512) × (x < c.width) × (y < c.height) × ((y * (row_bytes c.width * 8) + x) / 8 < length pixels)
@@ -148,23 +122,21 @@ pub one_le : (t : Bool) → one t ≤ 1
 one_le true = omega arith
 one_le false = omega arith
 
--- ---- a number of two bits fits, and so does one of four
-
-pub double_fits : (n : ℕ) (t : Bool) → n ≡ one t → Fits w8 (2 * n)
-double_fits n t e = record { fits = omega (arith, one_le t) }
-
-pub two_fit : (m n : ℕ) (t u : Bool) → m ≡ one t → n ≡ one u → Fits w8 (2 * m + n)
-two_fit m n t u e f = record { fits = omega (arith, one_le t, one_le u) }
+-- ---- a pair of pixels is a number of two bits
 
 pub pair_le : (c : Chart) (pixels : List ℕ) (x y : ℤ) (m : ℕ) → m ≡ pair_of c pixels x y → m ≤ 3
 unfolding pair_of
 pair_le c pixels x y m e = omega (arith, one_le (pixel_at c pixels (x -ℤ pos 1) y), one_le (pixel_at c pixels x y))
 
-pub bits_le : (m : ℕ) (t u : Bool) → m ≡ 2 * one t + one u → m ≤ 3
-bits_le m t u e = omega (arith, one_le t, one_le u)
+-- two pairs are the four
+pub two_rows : (c : Chart) (pixels : List ℕ) (x y : ℤ) (m n : ℕ) → m ≡ pair_of c pixels x (y -ℤ pos 1) → n ≡ pair_of c pixels x y → 4 * m + n ≡ around_of c pixels x y
+unfolding pair_of around_of
+two_rows c pixels x y m n e f = rw (e, f) (omega arith)
 
-pub quad_fits : (m : ℕ) → m ≤ 3 → Fits w8 (4 * m)
-quad_fits m h = record { fits = omega arith }
+-- ---- what the searches of the functions are given
 
-pub four_fit : (m n : ℕ) → m ≤ 3 → n ≤ 3 → Fits w8 (4 * m + n)
-four_fit m n h k = record { fits = omega arith }
+pub ruleset places = (within_narrow, within_column, row_fits, byte_fits, stride_fits, row_bits_fit, bit_fits, pixel_read)
+
+pub ruleset pairs = (stride_fits, row_bits_fit, bit_fits, parts_narrow, parts_column, one_row, pair_above, pair_below, two_pairs)
+
+pub ruleset edge = (around_left_of, around_above_all, pair_le, two_rows)

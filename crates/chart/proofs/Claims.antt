@@ -4,18 +4,15 @@ use mathlib.Core.Bool.{Bool, false}
 use mathlib.Core.List.{List}
 use mathlib.Core.Path.{◌≡◌}
 use lib.IntN.{ℤ}
+use Rattle.std.specs.Prelude.{Result}
 use Rattle.laws.proofs.Determined.{Determined, same}
+use Rattle.point.specs.declared.PointI32.{PointI32}
+use Rattle.point.specs.declared.refusal.Refusal.{Refusal}
 use Rattle.chart.specs.Pixels.{row_bytes, all_bytes, bad_sides, bad_chart, bytes_asked, pixel_at, around_of}
 use Rattle.chart.specs.Area.{rows_area, area_of}
 use Rattle.chart.specs.Start.{first_start}
-use Rattle.chart.specs.Answers.{cells_number, cells_count, start_number}
 use Rattle.chart.specs.declared.Chart.{Chart}
-use Rattle.chart.specs.declared.Cells.{Cells}
-use Rattle.chart.specs.declared.Start.{Start}
 use Rattle.chart.proofs.Rows.{rows_le}
-use Rattle.chart.proofs.Cells.number.Reads.{Post as CellsNumber}
-use Rattle.chart.proofs.Cells.count.Reads.{Post as CellsCount}
-use Rattle.chart.proofs.Start.number.Reads.{Post as StartNumber}
 use Rattle.chart.proofs.pixels.row_bytes.Reads.{Post as RowBytes}
 use Rattle.chart.proofs.pixels.all_bytes.Reads.{Post as AllBytes}
 use Rattle.chart.proofs.pixels.bad_sides.Reads.{Post as BadSides}
@@ -45,20 +42,11 @@ pixel_determined = same (λ x. pixel_at x.0 x.1 x.2 x.3) (λ _ a r s p. p)
 pub around_determined : Determined (Chart × List ℕ × ℤ × ℤ) ℕ Around (λ _ a. (a.0, a.1.0.now, a.1.1.0, a.1.1.1.0)) (λ _ r s. r)
 around_determined = same (λ x. around_of x.0 x.1 x.2 x.3) (λ _ a r s p. p)
 
-pub area_determined : Determined (Chart × List ℕ) Cells Area (λ _ a. (a.0, a.1.0.now)) (λ _ r s. r)
+pub area_determined : Determined (Chart × List ℕ) (Result ℕ Refusal) Area (λ _ a. (a.0, a.1.0.now)) (λ _ r s. r)
 area_determined = same (λ x. area_of x.0 x.1) (λ _ a r s p. p)
 
-pub first_start_determined : Determined (Chart × List ℕ) Start FirstStart (λ _ a. (a.0, a.1.0.now)) (λ _ r s. r)
+pub first_start_determined : Determined (Chart × List ℕ) (Result PointI32 Refusal) FirstStart (λ _ a. (a.0, a.1.0.now)) (λ _ r s. r)
 first_start_determined = same (λ x. first_start x.0 x.1) (λ _ a r s p. p)
-
-pub cells_number_determined : Determined Cells ℕ CellsNumber (λ _ a. a.0) (λ _ r s. r)
-cells_number_determined = same cells_number (λ _ a r s p. p)
-
-pub cells_count_determined : Determined Cells ℕ CellsCount (λ _ a. a.0) (λ _ r s. r)
-cells_count_determined = same cells_count (λ _ a r s p. p)
-
-pub start_number_determined : Determined Start ℕ StartNumber (λ _ a. a.0) (λ _ r s. r)
-start_number_determined = same start_number (λ _ a r s p. p)
 
 -- ---- A chart in range asks for all its bytes.
 

@@ -18,7 +18,7 @@ use Rattle.chart.specs.Pixels.{row_bytes, all_bytes, bad_sides, bad_chart, bit_o
 use Rattle.chart.specs.Area.{row_area, rows_area, area_answer, area_of}
 use Rattle.chart.specs.Start.{first_in_row, or_else, first_in_rows, start_or, start_answer, first_start}
 use Rattle.chart.specs.declared.Chart.{Chart}
-use Rattle.chart.specs.declared.Cells.TheVariants.{Set}
+use Rattle.std.specs.Prelude.{Ok}
 use Rattle.chart.proofs.Sizes.{within}
 
 -- Two lists of bytes that show the same pixels of a chart: both are long enough or neither is, and every pixel within the chart is the same.
@@ -46,7 +46,7 @@ module _ (c : Chart) (p q : List ℕ) (same : SamePixels c p q) where
     where
       by_refusal : (o : Option Refusal) → area_answer o c p ≡ area_answer o c q
       by_refusal (some r) = refl
-      by_refusal none = ap Set (same_rows c.height (omega arith))
+      by_refusal none = ap Ok (same_rows c.height (omega arith))
 
   -- ---- the first start
 

@@ -7,7 +7,8 @@ use native.Mathlib.Nat.{mul-le-mul, mul-le-mul_right, suc-mul, mul_comm, le_refl
 use native.Mathlib.Omega.{arith}
 use mir.Syntax.{w64}
 use mir.Val.{Fits}
-use lib.ListN.{length, get_or}
+use lib.ListN.{length, get_or, take, drop}
+use Rattle.std.proofs.lemmas.List.{get_or-drop, get_or-take}
 use borrow.Author.Tests.{ltb-false}
 use Rattle.laws.proofs.Joined.{both_false}
 use Rattle.laws.specs.inside.Bits.{set_bits}
@@ -50,24 +51,13 @@ module _ (c : Chart) (pixels : List ℕ) (y b : ℕ) (fine : Good c pixels) (row
   pub in_row : (i : ℕ) → i < b → y * b + i < length pixels
   in_row i h = omega (arith, row_ends)
 
-  pub in_row_fits : (i : ℕ) → i < b → Fits w64 (y * b + i)
-  in_row_fits i h = record { fits = omega (arith, few, start_few) }
-
-  pub in_whole : (i : ℕ) → i < c.width / 8 → y * b + i < length pixels
+  pub whole_ends : (i : ℕ) → i ≡ c.width / 8 → y * b + i ≤ length pixels
   unfolding row_bytes
-  in_whole i h = in_row i (omega arith)
-
-  pub in_whole_fits : (i : ℕ) → i < c.width / 8 → Fits w64 (y * b + i)
-  unfolding row_bytes
-  in_whole_fits i h = in_row_fits i (omega arith)
+  whole_ends i h = omega (arith, row_ends)
 
   pub in_rest : (c.width % 8 ≡ 0 → ⊥) → y * b + c.width / 8 < length pixels
   unfolding row_bytes
   in_rest h = in_row (c.width / 8) (omega arith)
-
-  pub in_rest_fits : (c.width % 8 ≡ 0 → ⊥) → Fits w64 (y * b + c.width / 8)
-  unfolding row_bytes
-  in_rest_fits h = in_row_fits (c.width / 8) (omega arith)
 
 -- ---- a row's pixels, byte by byte
 
@@ -104,6 +94,12 @@ module _ (c : Chart) (pixels : List ℕ) where
   rows_le zero = omega arith
   rows_le (suc n) = omega (arith, rows_le n, row_le c.width n, suc-mul n c.width)
 
+  pub area_fits : (y set n : ℕ) → set ≡ rows_area c pixels y → n ≡ row_area c pixels c.width y → Good c pixels → y < c.height → Fits w64 (set + n)
+  area_fits y set n e f g h =
+      let k : y ≤ 512 = omega (arith, g.high) in
+      let l : y * c.width ≤ 512 * 512 = mul-le-mul k g.wide in
+      record { fits = omega (arith, rows_le y, row_le c.width y, g.wide) }
+
 -- ---- the loop over a row's whole bytes: i of them are counted
 
 pub none_counted : (c : Chart) (pixels : List ℕ) (y : ℕ) → 0 ≡ row_area c pixels 0 y
@@ -117,11 +113,13 @@ module _ (c : Chart) (pixels : List ℕ) (y i set : ℕ) (counted : set ≡ row_
   pub last_sum_fits : (n o : ℕ) → i ≤ c.width / 8 → c.width ≤ 512 → o ≡ set_bits (c.width % 8) n → Fits w64 (set + o)
   last_sum_fits n o h w e = record { fits = omega (arith, row_le c pixels (i * 8) y, set_bits_le (c.width % 8) n) }
 
-  pub counted_more : (b o : ℕ) → b ≡ row_bytes c.width → o ≡ set_bits 8 (get_or pixels (y * b + i) 0) → set + o ≡ row_area c pixels ((i + 1) * 8) y
-  counted_more b o e f =
+  -- the i-th of the n bytes that are looked at
+  pub counted_more : (b n o : ℕ) → b ≡ row_bytes c.width → i < n → o ≡ set_bits 8 (get_or (take n (drop (y * b) pixels)) i 0) → set + o ≡ row_area c pixels ((i + 1) * 8) y
+  counted_more b n o e h f =
       let z : (i + 1) * 8 ≡ i * 8 + 8 = omega arith in
       let d : get_or pixels (y * b + i) 0 / 2 ^ (8 - 8) ≡ get_or pixels (y * b + i) 0 = omega arith in
-      rw (z, one_byte c pixels y b e i 8 (le_refl 8), d, counted, f)
+      let g : get_or (take n (drop (y * b) pixels)) i 0 ≡ get_or pixels (y * b + i) 0 = get_or-take n _ i 0 h ∙ get_or-drop (y * b) pixels i 0 in
+      rw (z, one_byte c pixels y b e i 8 (le_refl 8), d, counted, f, g)
 
   pub all_whole : i ≤ c.width / 8 → c.width / 8 ≤ i → c.width % 8 ≡ 0 → set ≡ row_area c pixels c.width y
   all_whole h k e = counted ∙ ap (λ (n : ℕ). row_area c pixels n y) (omega arith)
@@ -132,3 +130,9 @@ module _ (c : Chart) (pixels : List ℕ) (y i set : ℕ) (counted : set ≡ row_
       let j : i ≡ c.width / 8 = omega arith in
       let z : c.width ≡ c.width / 8 * 8 + c.width % 8 = omega arith in
       rw (counted, f, j) (sym (one_byte c pixels y b e (c.width / 8) (c.width % 8) (omega arith)) ∙ ap (λ (n : ℕ). row_area c pixels n y) (sym z))
+
+-- ---- what the searches are given
+
+pub ruleset counting = (row_start_fits, whole_ends, in_rest, none_counted, sum_fits, last_sum_fits, all_whole, with_the_rest)
+
+pub ruleset in_area = (good, area_fits)

@@ -7,20 +7,12 @@ use native.Mathlib.Omega.{arith}
 use mir.Syntax.{w64}
 use mir.Val.{Fits}
 use lib.Dec.{leb, ltb}
-use borrow.Author.Tests.{le-leb, lt-leb, le-ltb, lt-ltb, leb-true, ltb-true, not-false}
+use borrow.Author.Tests.{leb-true, ltb-true, not-false}
 use Rattle.laws.proofs.Joined.{both_true, both_false}
 use Rattle.chart.specs.declared.Chart.{Chart}
-use Rattle.chart.specs.Pixels.{side, bad_sides, bytes_asked, row_bytes, has_pixel}
+use Rattle.chart.specs.Pixels.{side, bad_sides, row_bytes, has_pixel}
 
 -- ---- a side
-
-pub long_enough : (n : ℕ) → 1 ≤ n → leb n 512 ≡ side n
-unfolding side
-long_enough n h = rw (le-leb 1 n h)
-
-pub too_short : (n : ℕ) → n < 1 → leb 1 n ≡ side n
-unfolding side
-too_short n h = rw (lt-leb 1 n h)
 
 pub side_within : (n : ℕ) → side n ≡ true → (1 ≤ n) × (n ≤ 512)
 unfolding side
@@ -52,41 +44,20 @@ module _ (c : Chart) (fine : bad_sides c ≡ false) where
   pub height_within : (1 ≤ c.height) × (c.height ≤ 512)
   height_within = side_within c.height (good_height (side c.width) (side c.height) fine)
 
-module _ (c : Chart) (bad : Bool) (says : bad ≡ bad_sides c) where
-  pub none_asked : bad ≡ true → 0 ≡ bytes_asked c
-  none_asked e = rw (← says, e)
-
-  module _ (e : bad ≡ false) (b : ℕ) (row : b ≡ row_bytes c.width) where
-    pub asked_fits : Fits w64 (b * c.height)
-    asked_fits = bytes_fit c.width c.height b row (width_within c (sym says ∙ e)).1 (height_within c (sym says ∙ e)).1
-
-    pub all_asked : b * c.height ≡ bytes_asked c
-    all_asked = rw (← says, e, row)
+pub asked_fits : (c : Chart) (bad : Bool) → bad ≡ bad_sides c → bad ≡ false → (b : ℕ) → b ≡ row_bytes c.width → Fits w64 (b * c.height)
+asked_fits c bad says e b row = bytes_fit c.width c.height b row (width_within c (sym says ∙ e)).1 (height_within c (sym says ∙ e)).1
 
 -- ---- a place in a chart
 
-module _ (c : Chart) (x y : ℕ) where
-  pub too_wide : 512 < c.width → false ≡ has_pixel c x y
-  unfolding has_pixel
-  too_wide h = rw (lt-leb _ _ h)
+pub within : (c : Chart) (x y : ℕ) (r : Bool) → r ≡ has_pixel c x y → not r ≡ false → (c.width ≤ 512) × (x < c.width) × (y < c.height)
+unfolding has_pixel
+within c x y r says fine =
+    let p = both_true (leb c.width 512 && ltb x c.width) (ltb y c.height) (sym says ∙ not-false r fine) in
+    let q = both_true (leb c.width 512) (ltb x c.width) p.0 in
+    (leb-true _ _ q.0, ltb-true _ _ q.1, ltb-true _ _ p.1)
 
-  pub too_far : c.width ≤ 512 → c.width ≤ x → false ≡ has_pixel c x y
-  unfolding has_pixel
-  too_far h k = rw (le-leb _ _ h, le-ltb _ _ k)
+pub within_narrow : (c : Chart) (x y : ℕ) (r : Bool) → r ≡ has_pixel c x y → not r ≡ false → c.width ≤ 512
+within_narrow c x y r says fine = (within c x y r says fine).0
 
-  pub by_row : c.width ≤ 512 → x < c.width → ltb y c.height ≡ has_pixel c x y
-  unfolding has_pixel
-  by_row h k = rw (le-leb _ _ h, lt-ltb _ _ k)
-
-  pub within : (r : Bool) → r ≡ has_pixel c x y → not r ≡ false → (c.width ≤ 512) × (x < c.width) × (y < c.height)
-  unfolding has_pixel
-  within r says fine =
-      let p = both_true (leb c.width 512 && ltb x c.width) (ltb y c.height) (sym says ∙ not-false r fine) in
-      let q = both_true (leb c.width 512) (ltb x c.width) p.0 in
-      (leb-true _ _ q.0, ltb-true _ _ q.1, ltb-true _ _ p.1)
-
-  pub within_narrow : (r : Bool) → r ≡ has_pixel c x y → not r ≡ false → c.width ≤ 512
-  within_narrow r says fine = (within r says fine).0
-
-  pub within_column : (r : Bool) → r ≡ has_pixel c x y → not r ≡ false → x < c.width
-  within_column r says fine = (within r says fine).1
+pub within_column : (c : Chart) (x y : ℕ) (r : Bool) → r ≡ has_pixel c x y → not r ≡ false → x < c.width
+within_column c x y r says fine = (within c x y r says fine).1

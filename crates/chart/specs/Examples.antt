@@ -1,18 +1,16 @@
 -- Worked examples: antt computes each, so `refl` proves it.
-use Rattle.std.specs.Prelude.{true, false, [], ◌∷◌, ◌≡◌, refl, pos, negsuc, replicate}
-use Rattle.point.specs.declared.refusal.Refusal.TheVariants.{BadSize}
+use Rattle.std.specs.Prelude.{true, false, [], ◌∷◌, ◌≡◌, refl, pos, negsuc, replicate, Ok, Err}
+use Rattle.point.specs.declared.refusal.Refusal.TheVariants.{BadSize, NoWay}
 use Rattle.chart.specs.Pixels.{bad_chart, pixel_at, around_of}
 use Rattle.chart.specs.Area.{area_of}
 use Rattle.chart.specs.Start.{first_start}
-use Rattle.chart.specs.declared.Cells.TheVariants as Cells
-use Rattle.chart.specs.declared.Start.TheVariants as Start
 
 -- pixels (0,0) and (1,1) of a 2 by 2 chart, with rubbish in the padding
-two : area_of (record { width = 2; height = 2 }) (0b10111111 ∷ 0b01000001 ∷ []) ≡ Cells.Set 2
+two : area_of (record { width = 2; height = 2 }) (0b10111111 ∷ 0b01000001 ∷ []) ≡ Ok 2
 unfolding bad_chart area_of
 two = refl
 
-too_few : area_of (record { width = 9; height = 1 }) (255 ∷ []) ≡ Cells.Refused BadSize
+too_few : area_of (record { width = 9; height = 1 }) (255 ∷ []) ≡ Err BadSize
 unfolding bad_chart area_of
 too_few = refl
 
@@ -51,10 +49,10 @@ outside : pixel_at (record { width = 1; height = 1 }) (255 ∷ []) (negsuc 0) (p
 unfolding pixel_at
 outside = refl
 
-second_row : first_start (record { width = 2; height = 2 }) (0b00111111 ∷ 0b01000001 ∷ []) ≡ Start.At (record { x = pos 1; y = pos 1 })
+second_row : first_start (record { width = 2; height = 2 }) (0b00111111 ∷ 0b01000001 ∷ []) ≡ Ok (record { x = pos 1; y = pos 1 })
 unfolding bad_chart first_start
 second_row = refl
 
-blank : first_start (record { width = 2; height = 2 }) (0b00111111 ∷ 0b00000001 ∷ []) ≡ Start.NoWay
+blank : first_start (record { width = 2; height = 2 }) (0b00111111 ∷ 0b00000001 ∷ []) ≡ Err NoWay
 unfolding bad_chart first_start
 blank = refl

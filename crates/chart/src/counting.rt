@@ -4,27 +4,27 @@ ghost use Rattle.laws.specs.inside.Bits.{set_bits};
 ghost use Rattle.chart.specs.Area.{area_of, row_area};
 ghost use Rattle.chart.specs.inside.Rows.{Good};
 
+use crate::Chart;
 use crate::pixels::{bad_chart, row_bytes};
-use crate::{Cells, Chart};
 use point::Refusal;
 
 // How many pixels are set.
-pub fn area(chart: Chart, pixels: &[u8]) -> Cells
+#[tactic(auto, using(crate::proofs::Rows::in_area), unfolding(crate::specs::Area::area_of))]
+pub fn area(chart: Chart, pixels: &[u8]) -> Result<usize, Refusal>
     ensures { result ≡ area_of chart pixels.now }
 {
     if bad_chart(chart, pixels) {
-        return Cells::Refused(Refusal::BadSize);
+        return Err(Refusal::BadSize);
     }
     let mut set = 0;
-    let mut y = 0;
-    while y < chart.height {
+    for y in 0..chart.height {
         set += row_area(chart, pixels, y);
-        y += 1;
     }
-    Cells::Set(set)
+    Ok(set)
 }
 
 // How many pixels of row `y` are set.
+#[tactic(auto, using(crate::proofs::Rows::counting))]
 fn row_area(chart: Chart, pixels: &[u8], y: usize) -> usize
     requires { Good chart pixels.now × (y < chart.height) }
     ensures { result ≡ row_area chart pixels.now chart.width y }
@@ -32,10 +32,8 @@ fn row_area(chart: Chart, pixels: &[u8], y: usize) -> usize
     let from = y * row_bytes(chart.width);
     let whole = chart.width / 8;
     let mut set = 0;
-    let mut i = 0;
-    while i < whole {
-        set += ones(pixels[from + i]);
-        i += 1;
+    for byte in &pixels[from..from + whole] {
+        set += ones(*byte);
     }
     let rest = chart.width % 8;
     if rest == 0 {
@@ -45,6 +43,7 @@ fn row_area(chart: Chart, pixels: &[u8], y: usize) -> usize
 }
 
 // How many pixels of a byte are set.
+#[tactic(auto, using(crate::proofs::OneByte::all_ones))]
 fn ones(byte: u8) -> usize
     ensures { result ≡ set_bits 8 byte }
 {
@@ -52,6 +51,7 @@ fn ones(byte: u8) -> usize
 }
 
 // How many of a byte's first pixels are set: the others are masked off.
+#[tactic(auto, using(crate::proofs::OneByte::masked))]
 fn first_ones(byte: u8, pixels: usize) -> usize
     requires { (1 ≤ pixels) × (pixels ≤ 8) }
     ensures { result ≡ set_bits pixels (byte / 2 ^ (8 - pixels)) }

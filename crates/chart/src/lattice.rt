@@ -25,17 +25,12 @@ pub fn around(chart: Chart, pixels: &[u8], x: i32, y: i32) -> u8
 }
 
 // Whether all four are in the chart.
+#[tactic(auto, using(crate::proofs::BitPlaces::places), unfolding(crate::specs::inside::Around::surrounded))]
 fn surrounded(chart: Chart, pixels: &[u8], column: usize, row: usize) -> bool
     requires { row < 2147483648 }
     ensures { result ≡ surrounded chart pixels.now column row }
 {
-    if column < 1 {
-        return false;
-    }
-    if row < 1 {
-        return false;
-    }
-    if !has_pixel(chart, column, row) {
+    if column < 1 || row < 1 || !has_pixel(chart, column, row) {
         return false;
     }
     let stride = row_bytes(chart.width) * 8;
@@ -43,6 +38,7 @@ fn surrounded(chart: Chart, pixels: &[u8], column: usize, row: usize) -> bool
 }
 
 // The four where all are in the chart: one or two bytes of each row.
+#[tactic(auto, using(crate::proofs::BitPlaces::pairs))]
 fn four(chart: Chart, pixels: &[u8], column: usize, row: usize) -> u8
     requires { (row < 2147483648) × (surrounded chart pixels.now column row ≡ true) }
     ensures { result ≡ around_of chart pixels.now (pos column) (pos row) }
@@ -53,6 +49,7 @@ fn four(chart: Chart, pixels: &[u8], column: usize, row: usize) -> u8
 }
 
 // A bit of the bytes, counted from the first byte's highest, and the bit before it, of weight 2.
+#[tactic(auto, using(crate::proofs::OneByte::within_a_byte, crate::proofs::OneByte::across_two))]
 fn pair(pixels: &[u8], bit: usize) -> u8
     requires { (1 ≤ bit) × (bit / 8 < length pixels.now) }
     ensures { result ≡ 2 * one (bit_at pixels.now (bit - 1)) + one (bit_at pixels.now bit) }
@@ -68,6 +65,7 @@ fn pair(pixels: &[u8], bit: usize) -> u8
 }
 
 // The four, each looked at by itself.
+#[tactic(auto, using(crate::proofs::BitPlaces::edge))]
 fn at_the_edge(chart: Chart, pixels: &[u8], x: i32, y: i32) -> u8
     ensures { result ≡ around_of chart pixels.now x y }
 {
@@ -78,16 +76,10 @@ fn at_the_edge(chart: Chart, pixels: &[u8], x: i32, y: i32) -> u8
 }
 
 // A pixel and the one on its left, of weight 2.
+#[tactic(auto, using(crate::proofs::OneByte::as_number), unfolding(crate::specs::inside::Around::pair_of))]
 fn two(chart: Chart, pixels: &[u8], x: i32, y: i32) -> u8
     requires { lt_z x (pos 0) ≡ false }
     ensures { result ≡ pair_of chart pixels.now x y }
 {
-    2 * one(pixel(chart, pixels, x - 1, y)) + one(pixel(chart, pixels, x, y))
-}
-
-// A pixel as a number: 1 where it is set.
-fn one(set: bool) -> u8
-    ensures { result ≡ one set }
-{
-    if set { 1 } else { 0 }
+    2 * u8::from(pixel(chart, pixels, x - 1, y)) + u8::from(pixel(chart, pixels, x, y))
 }

@@ -8,30 +8,31 @@ use crate::Chart;
 const LONGEST: usize = 512;
 
 // Whether a chart's size is out of range, or its pixels are too few.
+#[tactic(auto, unfolding(crate::specs::Pixels::bad_chart))]
 pub fn bad_chart(chart: Chart, pixels: &[u8]) -> bool
     ensures { result ≡ bad_chart chart pixels.now }
 {
-    if bad_sides(chart) {
-        return true;
-    }
-    pixels.len() < all_bytes(chart)
+    bad_sides(chart) || pixels.len() < all_bytes(chart)
 }
 
 // Whether a chart's size is out of range.
 pub fn bad_sides(chart: Chart) -> bool
     ensures { result ≡ bad_sides chart }
 {
-    !(side(chart.width) & side(chart.height))
+    !(side(chart.width) && side(chart.height))
 }
 
 // Whether a chart may be so wide, or so high.
+#[tactic(auto, unfolding(crate::specs::Pixels::side))]
 fn side(size: usize) -> bool
     ensures { result ≡ side size }
 {
     1 <= size && size <= LONGEST
 }
 
-// How many bytes a chart asks for: none where its size is out of range.
+// How many bytes a chart asks for: none where its size is out of range, so that nobody lends it any. (No Option: who
+// counts bytes has judged the size.)
+#[tactic(auto, using(crate::proofs::Sizes::asked_fits))]
 pub fn all_bytes(chart: Chart) -> usize
     ensures { result ≡ bytes_asked chart }
 {
@@ -42,6 +43,7 @@ pub fn all_bytes(chart: Chart) -> usize
 }
 
 // How many bytes a row of so many pixels takes: as many as it fills, and one for what is left.
+#[tactic(auto, unfolding(crate::specs::Pixels::row_bytes))]
 pub fn row_bytes(width: usize) -> usize
     ensures { result ≡ row_bytes width }
 {
@@ -49,6 +51,7 @@ pub fn row_bytes(width: usize) -> usize
 }
 
 // The pixel in column `x` of row `y`; false outside the chart.
+#[tactic(auto, using(crate::proofs::Outside::left_of, crate::proofs::Outside::above))]
 pub fn pixel(chart: Chart, pixels: &[u8], x: i32, y: i32) -> bool
     ensures { result ≡ pixel_at chart pixels.now x y }
 {
@@ -59,6 +62,7 @@ pub fn pixel(chart: Chart, pixels: &[u8], x: i32, y: i32) -> bool
 }
 
 // The pixel in a column and a row that are counted from 0; false outside the chart and past the last byte.
+#[tactic(auto, using(crate::proofs::BitPlaces::places), unfolding(crate::specs::Pixels::pixel_at))]
 fn pixel_in(chart: Chart, pixels: &[u8], column: usize, row: usize) -> bool
     requires { row < 2147483648 }
     ensures { result ≡ pixel_at chart pixels.now (pos column) (pos row) }
@@ -67,21 +71,13 @@ fn pixel_in(chart: Chart, pixels: &[u8], column: usize, row: usize) -> bool
         return false;
     }
     let at = row * row_bytes(chart.width) + column / 8;
-    if pixels.len() <= at {
-        return false;
-    }
-    pixels[at] >> (7 - column % 8) & 1 == 1
+    at < pixels.len() && pixels[at] >> (7 - column % 8) & 1 == 1
 }
 
 // Whether a chart that is not too wide has a pixel there.
+#[tactic(auto, unfolding(crate::specs::Pixels::has_pixel))]
 pub(crate) fn has_pixel(chart: Chart, column: usize, row: usize) -> bool
     ensures { result ≡ has_pixel chart column row }
 {
-    if LONGEST < chart.width {
-        return false;
-    }
-    if chart.width <= column {
-        return false;
-    }
-    row < chart.height
+    chart.width <= LONGEST && column < chart.width && row < chart.height
 }

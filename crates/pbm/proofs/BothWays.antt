@@ -10,16 +10,15 @@ use lib.ListN.{length, take, drop}
 use lib.Seq.{drop-append_seam}
 use Rattle.laws.specs.Lists.{over}
 use Rattle.laws.proofs.Lists.{take_over_all}
-use Rattle.point.specs.declared.refusal.Answer.TheVariants.{Done}
+use Rattle.std.specs.Prelude.{Ok}
 use Rattle.chart.specs.Pixels.{row_bytes, cell, one, bad_chart, all_bytes}
 use Rattle.chart.specs.declared.Chart.{Chart}
 use Rattle.texts.specs.Text.{natural_text}
 use Rattle.pbm.specs.Header.{Header, header_in}
 use Rattle.pbm.specs.Raster.{Image, image_in}
 use Rattle.pbm.specs.Bytes.{listed, chart_bytes}
-use Rattle.pbm.specs.Read.{Reading, read_of}
+use Rattle.pbm.specs.Read.{Reading, was_read, read_of}
 use Rattle.pbm.specs.Write.{head_text, picture_text, written_of}
-use Rattle.pbm.specs.declared.Picture.TheVariants.{Read}
 use Rattle.pbm.proofs.Bytes.{cell_over, padding_over, padding_chart, chart_bytes_again}
 use Rattle.pbm.proofs.theorems.ReadBack.{raw_back, plain_back}
 use Rattle.pbm.proofs.Images.{good_parts}
@@ -52,12 +51,12 @@ cleared_again c pixels buffer = ap (λ (bytes : List ℕ). head_text c ++ bytes)
 module _ (c : Chart) (pixels buffer : List ℕ) (fine : bad_chart c pixels ≡ false) (room : all_bytes c ≤ length buffer) where
   -- whatever follows the picture: it is not taken
   pub reading_what_was_written : (more : List ℕ) → read_of (picture_text c pixels ++ more) buffer
-      ≡ record { answer = Read c (length (picture_text c pixels)); out = cleared c pixels buffer }
+      ≡ record { answer = was_read c (length (picture_text c pixels)); out = cleared c pixels buffer }
   unfolding picture_text
   reading_what_was_written more = let p = good_parts c pixels fine in raw_back c (cell c pixels) buffer p.0 room more
 
   -- and where nothing follows
-  alone : read_of (picture_text c pixels) buffer ≡ record { answer = Read c (length (picture_text c pixels)); out = cleared c pixels buffer }
+  alone : read_of (picture_text c pixels) buffer ≡ record { answer = was_read c (length (picture_text c pixels)); out = cleared c pixels buffer }
   alone = ap (λ (file : List ℕ). read_of file buffer) (sym (append-nil (picture_text c pixels))) ∙ reading_what_was_written []
 
   -- "the same chart", pixel by pixel
@@ -75,9 +74,9 @@ module _ (c : Chart) (pixels buffer : List ℕ) (fine : bad_chart c pixels ≡ f
       written_same c _ out pixels good fine writing_what_was_read
 
 -- all that `write_pbm` put into its output is read back, and every byte of it is taken
-pub reading_the_output : (c : Chart) (pixels out buffer : List ℕ) (n : ℕ) → (written_of c pixels out).answer ≡ Done n →
+pub reading_the_output : (c : Chart) (pixels out buffer : List ℕ) (n : ℕ) → (written_of c pixels out).answer ≡ Ok n →
     all_bytes c ≤ length buffer →
-    read_of (take n (written_of c pixels out).out) buffer ≡ record { answer = Read c n; out = cleared c pixels buffer }
+    read_of (take n (written_of c pixels out).out) buffer ≡ record { answer = was_read c n; out = cleared c pixels buffer }
 reading_the_output c pixels out buffer n done room =
     let w = written_done c pixels out n done in
     let text : take n (written_of c pixels out).out ≡ picture_text c pixels = rw (w.1, w.2) (take_over_all (picture_text c pixels) out) in
@@ -85,7 +84,7 @@ reading_the_output c pixels out buffer n done room =
 
 -- ---- what was read, of any file, plain or raw
 
-module _ (file buffer : List ℕ) (c : Chart) (n : ℕ) (read : (read_of file buffer).answer ≡ Read c n) where
+module _ (file buffer : List ℕ) (c : Chart) (n : ℕ) (read : (read_of file buffer).answer ≡ was_read c n) where
   -- is a chart that no call refuses as bad
   pub what_was_read_is_good : bad_chart c (read_of file buffer).out ≡ false
   what_was_read_is_good = read_good c buffer (read_of file buffer).out (read_into file buffer c n read)
@@ -133,7 +132,7 @@ the_same_picture file file' buffer h h' image image' head head' whole whole' cha
 module _ (c : Chart) (pixels buffer : List ℕ) (fine : bad_chart c pixels ≡ false) (room : all_bytes c ≤ length buffer) where
   -- the plain picture of a chart, whatever follows it
   pub reading_a_plain_picture : (more : List ℕ) → read_of (plain_text c pixels ++ more) buffer
-      ≡ record { answer = Read c (length (plain_text c pixels)); out = cleared c pixels buffer }
+      ≡ record { answer = was_read c (length (plain_text c pixels)); out = cleared c pixels buffer }
   reading_a_plain_picture more = let p = good_parts c pixels fine in plain_back c (cell c pixels) buffer p.0 room more
 
   -- and the raw one

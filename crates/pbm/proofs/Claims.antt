@@ -4,18 +4,15 @@ use mathlib.Core.List.{List}
 use mathlib.Core.Path.{◌≡◌, refl}
 use lib.ListN.{length}
 use Rattle.laws.proofs.Determined.{Determined, same}
-use Rattle.point.specs.declared.refusal.Answer.TheVariants.{Refused}
+use Rattle.std.specs.Prelude.{Err}
 use Rattle.point.specs.declared.refusal.Refusal.{Refusal}
 use Rattle.point.proofs.Claims.{refusal_changes_nothing}
 use Rattle.chart.specs.declared.Chart.{Chart}
 use Rattle.pbm.specs.Read.{Reading, read_of}
 use Rattle.pbm.specs.Write.{picture_text, Written, text_handed, write_refusal, written_of}
-use Rattle.pbm.specs.Answers.{picture_number}
-use Rattle.pbm.specs.declared.Picture.{Picture}
 use Rattle.pbm.proofs.theorems.Told.{refused_leaves}
 use Rattle.pbm.proofs.read.read_pbm.Reads.{Post as Read}
 use Rattle.pbm.proofs.write.write_pbm.Reads.{Post as Write}
-use Rattle.pbm.proofs.Picture.number.Reads.{Post as Number}
 
 -- ---- Each contract leaves no choice: of equal arguments it allows one answer, and one last content of the buffer. `Post` is the contract
 -- itself, as Rattle reads it off the source, at arguments `a`, a result `r` and parameters at exit `s`.
@@ -30,15 +27,12 @@ pub write_pbm_determined : Determined (Chart × List ℕ × List ℕ) Written Wr
     (λ _ r s. record { answer = r; out = s.1.1.0.now })
 write_pbm_determined = same (λ x. written_of x.0 x.1 x.2) (λ _ a r s p. p)
 
-pub picture_number_determined : Determined Picture ℕ Number (λ _ a. a.0) (λ _ r s. r)
-picture_number_determined = same picture_number (λ _ a r s p. p)
-
 -- ---- A refusal changes nothing.
 
-pub read_pbm_unchanged : (file pixels : List ℕ) (r : Refusal) → (read_of file pixels).answer ≡ Picture.Refused r → (read_of file pixels).out ≡ pixels
+pub read_pbm_unchanged : (file pixels : List ℕ) (r : Refusal) → (read_of file pixels).answer ≡ Err r → (read_of file pixels).out ≡ pixels
 read_pbm_unchanged = refused_leaves
 
-pub write_pbm_unchanged : (c : Chart) (pixels out : List ℕ) (r : Refusal) → (written_of c pixels out).answer ≡ Refused r → (written_of c pixels out).out ≡ out
+pub write_pbm_unchanged : (c : Chart) (pixels out : List ℕ) (r : Refusal) → (written_of c pixels out).answer ≡ Err r → (written_of c pixels out).out ≡ out
 unfolding written_of
 write_pbm_unchanged c pixels out r =
     refusal_changes_nothing (write_refusal c pixels out) out (text_handed (picture_text c pixels) out) (length (picture_text c pixels)) refl r

@@ -108,6 +108,10 @@ behind_onto s (some d) = refl
 
 -- ---- the digits behind the first k
 
+-- the pixels of digits that are there
+abbrev pub bit : Option Digits → ℕ → Bool
+bit d = λ j. get_or (bits_of d) j false
+
 abbrev pub skip : ℕ → Option Digits → Option Digits
 skip k none = none
 skip k (some d) = some (record { bits = drop k d.bits; rest = d.rest })

@@ -6,12 +6,11 @@ use mathlib.Core.Path.{◌≡◌, refl, sym, ap, subst, ◌∙◌}
 use native.Mathlib.Nat.{pow-suc}
 use native.Mathlib.Omega.{arith}
 use lib.Dec.{ltb}
-use lib.ListN.{length, drop, set, length-append, length-set}
-use lib.Seq.{append_snoc, sets-eq}
+use lib.ListN.{length, drop, length-append}
+use lib.Seq.{append_snoc}
 use borrow.Author.Tests.{ltb-false}
 use Rattle.std.specs.Prelude.{if◌then◌else◌}
 use Rattle.laws.specs.Lists.{over}
-use Rattle.laws.proofs.Lists.{length_over}
 use Rattle.chart.specs.Pixels.{cell, all_bytes, bad_sides}
 use Rattle.chart.specs.declared.Chart.{Chart}
 use Rattle.chart.proofs.Sizes.{width_within, height_within}
@@ -64,10 +63,6 @@ module _ (c : Chart) (pixels : List ℕ) where
 
 -- ---- its parts
 
--- three bytes stored at the start are put there
-three_put : (a b c : ℕ) (out : List ℕ) → 3 ≤ length out → record { answer = 3; out = set (set (set out 0 a) 1 b) 2 c } ≡ put (a ∷ b ∷ c ∷ []) out 0
-three_put a b c out h = ap (λ (l : List ℕ). record { answer = 3; out = l }) (sets-eq (a ∷ b ∷ c ∷ []) out 0 h) ∙ sym (put_fits (a ∷ b ∷ c ∷ []) out 0 h)
-
 -- a text put at the start stands over it
 put_over : (text out last : List ℕ) (r : ℕ) → length text ≤ length out → record { answer = r; out = last } ≡ put text out 0 →
     (r ≡ length text) × (last ≡ over text out)
@@ -87,7 +82,7 @@ module _ (c : Chart) (out : List ℕ) (room : length (head_text c) ≤ length ou
   second = natural_text c.height ++ (10 ∷ [])
 
   abbrev magic : List ℕ
-  magic = set (set (set out 0 80) 1 52) 2 10
+  magic = 80 ∷ 52 ∷ 10 ∷ []
 
   whole : 80 ∷ 52 ∷ 10 ∷ first ++ second ≡ head_text c
   whole =
@@ -97,32 +92,29 @@ module _ (c : Chart) (out : List ℕ) (room : length (head_text c) ≤ length ou
   all_length : length (head_text c) ≡ length first + length second + 3
   all_length = sym (ap length whole) ∙ length-append (80 ∷ 52 ∷ 10 ∷ first) second ∙ omega arith
 
-  pub magic_room : 3 ≤ length out
-  magic_room = omega (arith, all_length)
+  module _ (begun : List ℕ) (k : ℕ) (start : record { answer = k; out = begun } ≡ put magic out 0) where
+    pub first_room : k + length first ≤ length begun
+    first_room =
+        subst (λ (o : Placed). o.answer + length first ≤ length o.out) (sym start)
+        (second_fits magic first out 0 (omega (arith, all_length)))
 
-  pub first_room : 3 + length first ≤ length magic
-  first_room = simp length-set (omega (arith, all_length))
+    module _ (mid : List ℕ) (m : ℕ) (e : record { answer = m; out = mid } ≡ put first begun k) where
+      both_put : record { answer = m; out = mid } ≡ put (80 ∷ 52 ∷ 10 ∷ first) out 0
+      both_put = put_then magic first out begun mid 0 k m (omega (arith, all_length)) start e
 
-  module _ (mid : List ℕ) (m : ℕ) (e : record { answer = m; out = mid } ≡ put first magic 3) where
-    both_put : record { answer = m; out = mid } ≡ put (80 ∷ 52 ∷ 10 ∷ first) out 0
-    both_put = put_then (80 ∷ 52 ∷ 10 ∷ []) first out magic mid 0 3 m (omega (arith, all_length)) (three_put 80 52 10 out magic_room) e
+      pub second_room : m + length second ≤ length mid
+      second_room =
+          subst (λ (o : Placed). o.answer + length second ≤ length o.out) (sym both_put)
+          (second_fits (80 ∷ 52 ∷ 10 ∷ first) second out 0 (omega (arith, ap length whole)))
 
-    pub second_room : m + length second ≤ length mid
-    second_room =
-        subst (λ (o : Placed). o.answer + length second ≤ length o.out) (sym both_put)
-        (second_fits (80 ∷ 52 ∷ 10 ∷ first) second out 0 (omega (arith, ap length whole)))
+      module _ (last : List ℕ) (r : ℕ) (f : record { answer = r; out = last } ≡ put second mid m) where
+        head_put : (r ≡ length (head_text c)) × (last ≡ over (head_text c) out)
+        head_put =
+            put_over (head_text c) out last r room
+            (put_then (80 ∷ 52 ∷ 10 ∷ first) second out mid last 0 m r (omega (arith, ap length whole)) both_put f ∙ ap (λ (t : List ℕ). put t out 0) whole)
 
-    module _ (last : List ℕ) (r : ℕ) (f : record { answer = r; out = last } ≡ put second mid m) where
-      head_put : (r ≡ length (head_text c)) × (last ≡ over (head_text c) out)
-      head_put =
-          put_over (head_text c) out last r room
-          (put_then (80 ∷ 52 ∷ 10 ∷ first) second out mid last 0 m r (omega (arith, ap length whole)) both_put f ∙ ap (λ (t : List ℕ). put t out 0) whole)
+        pub head_next : r ≡ length (head_text c)
+        head_next = head_put.0
 
-      pub head_next : r ≡ length (head_text c)
-      head_next = head_put.0
-
-      pub head_over : last ≡ over (head_text c) out
-      head_over = head_put.1
-
-      pub head_kept : length last ≡ length out
-      head_kept = ap length head_over ∙ length_over (head_text c) out room
+        pub head_over : last ≡ over (head_text c) out
+        head_over = head_put.1

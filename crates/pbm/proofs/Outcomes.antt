@@ -2,7 +2,7 @@
 use Prim.Native.Nat.{ℕ, ◌-◌, ◌≤◌, ◌<◌, min}
 use mathlib.Core.Bool.{Bool, true, false, not, ◌&&◌, ◌||◌}
 use mathlib.Core.List.{List}
-use mathlib.Core.Option.{Option, some, none}
+use mathlib.Core.Option.{some, none}
 use mathlib.Core.Path.{◌≡◌, refl, sym, ◌∙◌}
 use native.Mathlib.Omega.{arith}
 use lib.Dec.{leb}
@@ -16,25 +16,8 @@ use Rattle.chart.proofs.Sizes.{side_within}
 use Rattle.pbm.specs.Header.{Header, header_in}
 use Rattle.pbm.specs.Raster.{Image, image_in}
 use Rattle.pbm.specs.Bytes.{chart_bytes}
-use Rattle.pbm.specs.Read.{refused, laid, read_behind, read_of}
-use Rattle.pbm.specs.inside.Places.{place_of, cut}
-use Rattle.pbm.specs.declared.Picture.TheVariants.{Read}
-use Rattle.pbm.specs.declared.header.Place.TheVariants.{At, Nowhere}
-
--- ---- a place that was found, or not
-
-pub record PlaceFound (file : List ℕ) (o : Option (List ℕ)) (place : ℕ) : Type 0 where
-  pub rest : List ℕ
-  pub is : o ≡ some rest
-  pub says : place ≡ length file - length rest
-
-pub place_found : (file : List ℕ) (o : Option (List ℕ)) (place : ℕ) → At place ≡ place_of file o → PlaceFound file o place
-place_found file none place e = let z : ◌≡◌ {A = ℕ} 0 1 = cc in absurd (omega arith)
-place_found file (some rest) place e = record { rest = rest; is = refl; says = cc }
-
-pub nowhere : (file : List ℕ) (o : Option (List ℕ)) → Nowhere ≡ place_of file o → o ≡ none
-nowhere file none e = refl
-nowhere file (some rest) e = let z : ◌≡◌ {A = ℕ} 0 1 = cc in absurd (omega arith)
+use Rattle.pbm.specs.Read.{refused, was_read, laid, read_behind, read_of}
+use Rattle.pbm.specs.inside.Places.{cut}
 
 -- ---- the header
 
@@ -70,7 +53,7 @@ module _ (file pixels : List ℕ) (c : Chart) (image : Image) where
   no_room h = rw (lt-ltb (length pixels) (all_bytes c) h, laid)
 
   pub room : all_bytes c ≤ length pixels
-      → record { answer = Read c (length file - length image.rest); out = over (chart_bytes c image.set) pixels } ≡ laid file c image pixels
+      → record { answer = was_read c (length file - length image.rest); out = over (chart_bytes c image.set) pixels } ≡ laid file c image pixels
   unfolding laid
   room h = rw (le-ltb (length pixels) (all_bytes c) h, laid)
 

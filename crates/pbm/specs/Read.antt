@@ -1,5 +1,5 @@
 -- Document 02, 1/13: what `read_pbm` answers, and what the buffer lent to it then holds.
-use Rattle.std.specs.Prelude.{ℕ, ◌-◌, true, false, List, ltb, length}
+use Rattle.std.specs.Prelude.{ℕ, ◌-◌, true, false, List, ltb, length, Result, Ok, Err}
 use Rattle.std.proofs.Math.Option.{some, none}
 use Rattle.laws.specs.Lists.{over}
 use Rattle.laws.specs.Outcome.{Outcome}
@@ -13,11 +13,15 @@ use Rattle.pbm.specs.Bytes.{chart_bytes}
 use Rattle.pbm.specs.declared.Picture.{Picture}
 
 abbrev pub Reading : Type 0
-Reading = Outcome Picture (List ℕ)
+Reading = Outcome (Result Picture Refusal) (List ℕ)
+
+-- a chart, and how many bytes of the file its image took
+abbrev pub was_read : Chart → ℕ → Result Picture Refusal
+was_read c n = Ok (record { chart = c; bytes = n })
 
 -- "All leave the buffers as lent."
 abbrev pub refused : Refusal → List ℕ → Reading
-refused r pixels = record { answer = Picture.Refused r; out = pixels }
+refused r pixels = record { answer = Err r; out = pixels }
 
 -- "10, last, when the chart buffer .. is shorter than what goes into it"; else the chart stands over the start of the buffer, and the bytes
 -- that the image took are counted
@@ -25,7 +29,7 @@ unfoldable pub laid : List ℕ → Chart → Image → List ℕ → Reading
 unfolding chart_bytes
 laid file c image pixels = elim (ltb (length pixels) (all_bytes c)) [
   | true ↦ refused NoRoom pixels
-  | false ↦ record { answer = Picture.Read c (length file - length image.rest); out = over (chart_bytes c image.set) pixels }
+  | false ↦ record { answer = was_read c (length file - length image.rest); out = over (chart_bytes c image.set) pixels }
 ]
 
 -- "1 for a size out of range, tested as soon as both sizes are read"; 12 for what is wrong behind them, "or missing pixels"

@@ -1,12 +1,10 @@
 -- Document 02, 1/13: what `write_pbm` answers, and what the buffer lent to it then holds.
-use Rattle.std.specs.Prelude.{ℕ, List, [], ◌∷◌, ◌++◌, ltb, length}
+use Rattle.std.specs.Prelude.{ℕ, List, [], ◌∷◌, ◌++◌, ltb, length, Result, Ok}
 use Rattle.std.proofs.Math.Option.{Option, none}
 use Rattle.laws.specs.Lists.{over}
 use Rattle.laws.specs.Outcome.{Outcome}
 use Rattle.point.specs.Outcomes.{outcome}
 use Rattle.point.specs.Refusals.{refuse◌when◌or◌}
-use Rattle.point.specs.declared.refusal.Answer.{Answer}
-use Rattle.point.specs.declared.refusal.Answer.TheVariants.{Done, Refused}
 use Rattle.point.specs.declared.refusal.Refusal.{Refusal}
 use Rattle.point.specs.declared.refusal.Refusal.TheVariants.{BadSize, NoRoom}
 use Rattle.chart.specs.Pixels.{cell, bad_chart}
@@ -24,11 +22,11 @@ unfolding chart_bytes
 picture_text c pixels = head_text c ++ chart_bytes c (cell c pixels)
 
 abbrev pub Written : Type 0
-Written = Outcome Answer (List ℕ)
+Written = Outcome (Result ℕ Refusal) (List ℕ)
 
 -- a text at the start of a buffer, its bytes counted: "places past the answer hold theirs"
 abbrev pub text_handed : List ℕ → List ℕ → Written
-text_handed text out = record { answer = Done (length text); out = over text out }
+text_handed text out = record { answer = Ok (length text); out = over text out }
 
 -- "10, last, when .. the writer's output is shorter than what goes into it"
 abbrev pub write_refusal : Chart → List ℕ → List ℕ → Option Refusal
@@ -39,4 +37,4 @@ write_refusal c pixels out =
 
 unfoldable pub written_of : Chart → List ℕ → List ℕ → Written
 unfolding picture_text outcome
-written_of c pixels out = outcome Refused (write_refusal c pixels out) out (text_handed (picture_text c pixels) out)
+written_of c pixels out = outcome (write_refusal c pixels out) out (text_handed (picture_text c pixels) out)

@@ -8,11 +8,7 @@ use crate::letters::{hash, line_end, white};
 pub(crate) fn parted(file: &[u8], at: usize) -> bool
     ensures { result ≡ (begins white (drop at file.now) || begins hash (drop at file.now)) }
 {
-    if file.len() <= at {
-        return false;
-    }
-    let b = file[at];
-    white(b) | hash(b)
+    file.get(at).is_some_and(|b| white(*b) || hash(*b))
 }
 
 // The place behind white space and comments.
@@ -20,23 +16,21 @@ pub(crate) fn behind(file: &[u8], from: usize) -> usize
     ensures { drop result file.now ≡ behind false (drop from file.now) }
 {
     let mut comment = false;
-    let mut i = from;
-    while i < file.len() {
+    for i in from..file.len() {
         let b = file[i];
         if !passed(comment, b) {
             return i;
         }
         comment = commented(comment, b);
-        i += 1;
     }
-    i
+    file.len()
 }
 
 // Whether a byte stands in a comment, begins one or is white space.
 fn passed(comment: bool, b: u8) -> bool
     ensures { result ≡ (comment || white b || hash b) }
 {
-    comment | white(b) | hash(b)
+    comment || white(b) || hash(b)
 }
 
 // Whether a comment is open behind a byte.
@@ -51,13 +45,10 @@ pub(crate) fn past_line(file: &[u8], from: usize) -> usize
     requires { from ≤ length file.now }
     ensures { result ≡ length file.now - length (past_line (drop from file.now)) }
 {
-    let mut i = from;
-    while i < file.len() {
-        let b = file[i];
-        i += 1;
-        if line_end(b) {
-            return i;
+    for i in from..file.len() {
+        if line_end(file[i]) {
+            return i + 1;
         }
     }
-    i
+    file.len()
 }

@@ -4,7 +4,7 @@ ghost use Rattle.pbm.specs.Header.{sizes_in, header_in, raster_in};
 ghost use Rattle.pbm.specs.inside.Places.{place_of, head_of};
 
 use crate::blanks::past_line;
-use crate::decimal::{Size, read_size};
+use crate::decimal::read_size;
 use crate::letters::{hash, white};
 use chart::Chart;
 
@@ -16,76 +16,43 @@ pub(crate) struct Header {
     pub end: usize,
 }
 
-#[derive(Clone, Copy)]
-pub(crate) enum Head {
-    Is(Header),
-    Not,
-}
-
-// A place of the file, or that there is none.
-#[derive(Clone, Copy)]
-pub(crate) enum Place {
-    At(usize),
-    Nowhere,
-}
-
 // Reads the header up to its second size.
-pub(crate) fn read_header(file: &[u8]) -> Head
+pub(crate) fn read_header(file: &[u8]) -> Option<Header>
     ensures { result ≡ head_of file.now (header_in file.now) }
 {
-    if file.len() < 2 {
-        return Head::Not;
+    match file {
+        [b'P', b'1', ..] => sizes(file, true),
+        [b'P', b'4', ..] => sizes(file, false),
+        _ => None,
     }
-    if file[0] != b'P' {
-        return Head::Not;
-    }
-    if file[1] == b'1' {
-        return sizes(file, true);
-    }
-    if file[1] == b'4' {
-        return sizes(file, false);
-    }
-    Head::Not
 }
 
 // Reads the two sizes behind the magic number.
-fn sizes(file: &[u8], plain: bool) -> Head
+fn sizes(file: &[u8], plain: bool) -> Option<Header>
     ensures { result ≡ head_of file.now (sizes_in plain (drop 2 file.now)) }
 {
-    let Size::Is {
-        value: width,
-        end: middle,
-    } = read_size(file, 2)
-    else {
-        return Head::Not;
-    };
-    let Size::Is { value: height, end } = read_size(file, middle) else {
-        return Head::Not;
-    };
-    let chart = Chart {
-        width: width,
-        height: height,
-    };
-    Head::Is(Header {
-        plain: plain,
-        chart: chart,
-        end: end,
+    let width = read_size(file, 2)?;
+    let height = read_size(file, width.end)?;
+    Some(Header {
+        plain,
+        chart: Chart {
+            width: width.value,
+            height: height.value,
+        },
+        end: height.end,
     })
 }
 
 // The place of the raster: behind one byte of white space, or one comment and the end of its line.
-pub(crate) fn raster(file: &[u8], from: usize) -> Place
+pub(crate) fn raster(file: &[u8], from: usize) -> Option<usize>
     ensures { result ≡ place_of file.now (raster_in (drop from file.now)) }
 {
-    if file.len() <= from {
-        return Place::Nowhere;
-    }
-    let b = file[from];
+    let b = *file.get(from)?;
     if white(b) {
-        return Place::At(from + 1);
+        return Some(from + 1);
     }
     if hash(b) {
-        return Place::At(past_line(file, from + 1));
+        return Some(past_line(file, from + 1));
     }
-    Place::Nowhere
+    None
 }

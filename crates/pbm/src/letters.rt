@@ -3,26 +3,30 @@ ghost use Rattle.std.specs.Prelude.{◌≡◌};
 ghost use Rattle.pbm.specs.Header.{white, line_end, hash, digit};
 
 // Space, TAB, LF, VT, FF or CR.
+#[tactic(auto, unfolding(crate::specs::Header::white))]
 pub(crate) fn white(b: u8) -> bool
     ensures { result ≡ white b }
 {
-    (b == b' ') | ((9 <= b) & (b <= 13))
+    matches!(b, b' ' | 9..=13)
 }
 
+#[tactic(auto, unfolding(crate::specs::Header::line_end))]
 pub(crate) fn line_end(b: u8) -> bool
     ensures { result ≡ line_end b }
 {
-    (b == 10) | (b == 13)
+    matches!(b, b'\n' | b'\r')
 }
 
+#[tactic(auto, unfolding(crate::specs::Header::hash))]
 pub(crate) fn hash(b: u8) -> bool
     ensures { result ≡ hash b }
 {
     b == b'#'
 }
 
+#[tactic(auto, unfolding(crate::specs::Header::digit))]
 pub(crate) fn digit(b: u8) -> bool
     ensures { result ≡ digit b }
 {
-    (b'0' <= b) & (b <= b'9')
+    b.is_ascii_digit()
 }

@@ -14,30 +14,13 @@ mod raw;
 mod read;
 mod write;
 
-ghost use Rattle.std.specs.Prelude.{◌≡◌};
-ghost use Rattle.pbm.specs.Answers.{picture_number};
-
 use chart::Chart;
-use point::Refusal;
 pub use read::read_pbm;
 pub use write::write_pbm;
 
-// What reading a picture answers: its chart, with how many bytes of the file its image took, or why there
-// is none.
+// A picture that was read: its chart, and how many bytes of the file its image took.
 #[derive(Clone, Copy)]
-pub enum Picture {
-    Read { chart: Chart, bytes: usize },
-    Refused(Refusal),
-}
-
-impl Picture {
-    // Document 01's number.
-    pub fn number(self) -> u8
-        ensures { result ≡ picture_number self }
-    {
-        match self {
-            Picture::Read { chart: _, bytes: _ } => 0,
-            Picture::Refused(refusal) => refusal.number(),
-        }
-    }
+pub struct Picture {
+    pub chart: Chart,
+    pub bytes: usize,
 }

@@ -7,7 +7,6 @@ ghost use Rattle.pbm.specs.Bytes.{packed, chart_bytes};
 ghost use Rattle.pbm.specs.Raster.{digits_in};
 ghost use Rattle.pbm.specs.inside.Places.{place_of, behind_digits, bits_of, whole};
 
-use crate::header::Place;
 use crate::letters::white;
 use crate::raw::all_bytes;
 use chart::Chart;
@@ -19,27 +18,25 @@ struct Gathered {
     end: usize,
 }
 
-// The place behind `n` digits, with white space before each or not; nowhere, if another byte stands before
+// The place behind `n` digits, with white space before each or not; none, if another byte stands before
 // the last of them or the file ends.
-pub(crate) fn digits_end(file: &[u8], from: usize, n: usize) -> Place
+pub(crate) fn digits_end(file: &[u8], from: usize, n: usize) -> Option<usize>
     requires { from ≤ length file.now }
     ensures { result ≡ place_of file.now (behind_digits (digits_in n (drop from file.now))) }
 {
     let mut left = n;
     let mut i = from;
+    // No `for`: digits are counted, and only some of the bytes are digits.
     while 0 < left {
-        if file.len() <= i {
-            return Place::Nowhere;
-        }
-        let b = file[i];
+        let b = *file.get(i)?;
         i += 1;
         if is_pixel(b) {
             left -= 1;
         } else if !white(b) {
-            return Place::Nowhere;
+            return None;
         }
     }
-    Place::At(i)
+    Some(i)
 }
 
 // Puts the pixels of all rows into a chart's bytes; they are all there. `x` is the first column of the byte
@@ -53,13 +50,11 @@ pub(crate) fn pack_rows(file: &[u8], from: usize, chart: Chart, pixels: &mut [u8
     let bytes = all_bytes(chart);
     let mut at = from;
     let mut x = 0;
-    let mut i = 0;
-    while i < bytes {
+    for i in 0..bytes {
         let width = chart.width;
         let gathered = gather(file, at, in_byte(width - x));
         pixels[i] = gathered.byte;
         at = gathered.end;
-        i += 1;
         x += 8;
         if width <= x {
             x = 0;
@@ -71,7 +66,7 @@ pub(crate) fn pack_rows(file: &[u8], from: usize, chart: Chart, pixels: &mut [u8
 fn in_byte(left: usize) -> usize
     ensures { result ≡ min left 8 }
 {
-    if 8 < left { 8 } else { left }
+    left.min(8)
 }
 
 // Gathers `n` digits, which are there and at most eight, into the high bits of a byte. What else stands
@@ -84,6 +79,7 @@ fn gather(file: &[u8], from: usize, n: usize) -> Gathered
     let mut byte = 0;
     let mut wanted = n;
     let mut i = from;
+    // No `for`: it would look for the file's end at each byte, and these digits are known to be there.
     while 0 < wanted {
         let b = file[i];
         i += 1;
@@ -101,5 +97,5 @@ fn gather(file: &[u8], from: usize, n: usize) -> Gathered
 fn is_pixel(b: u8) -> bool
     ensures { result ≡ (eqb b 48 || eqb b 49) }
 {
-    (b == b'0') | (b == b'1')
+    matches!(b, b'0' | b'1')
 }

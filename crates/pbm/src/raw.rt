@@ -1,9 +1,10 @@
 // Rows of pixels, copied with their padding cleared: as a raw picture has them, and as a chart has them.
-ghost use Rattle.std.specs.Prelude.{◌+◌, ◌*◌, ◌/◌, ◌^◌, ◌≤◌, false, ◌++◌, ◌≡◌, length, take, drop};
+ghost use Rattle.std.specs.Prelude.{◌*◌, ◌/◌, ◌^◌, ◌≤◌, false, ◌≡◌, length};
 ghost use Rattle.chart.specs.Pixels.{cell, all_bytes, bad_sides};
 ghost use Rattle.pbm.specs.Bytes.{chart_bytes};
 
 use chart::Chart;
+use texts::Pen;
 
 // How many bytes a chart in range takes.
 pub(crate) fn all_bytes(chart: Chart) -> usize
@@ -13,33 +14,33 @@ pub(crate) fn all_bytes(chart: Chart) -> usize
     chart::all_bytes(chart)
 }
 
-// Copies a chart's rows, from the start of `pixels` to a place of `out`: all bytes as they are, and then the
-// padding is cleared.
-pub(crate) fn copy_rows(chart: Chart, pixels: &[u8], out: &mut [u8], at: usize)
+// Copies a chart's rows from the start of `pixels` over a part that is as long as they are: all bytes as they are,
+// and then the padding is cleared.
+pub(crate) fn copy_rows(chart: Chart, pixels: &[u8], part: &mut [u8])
     requires { (bad_sides chart ≡ false) × (all_bytes chart ≤ length pixels.now)
-        × (at + all_bytes chart ≤ length out.old) }
-    ensures { out.new ≡ take at out.old ++ chart_bytes chart (cell chart pixels.now)
-        ++ drop (at + all_bytes chart) out.old }
+        × (length part.old ≡ all_bytes chart) }
+    ensures { part.new ≡ chart_bytes chart (cell chart pixels.now) }
 {
-    let bytes = all_bytes(chart);
-    texts::put_bytes(&pixels[0..bytes], out, at);
-    clear_padding(chart, out, at);
+    let bytes = part.len();
+    let mut pen = Pen {
+        out: &mut *part,
+        at: 0,
+    };
+    pen.put_bytes(&pixels[..bytes]);
+    clear_padding(chart, part);
 }
 
-// Clears the padding of a chart's rows, which stand from a place of `out` on. Each row's last byte has it.
-fn clear_padding(chart: Chart, out: &mut [u8], at: usize)
-    requires { (bad_sides chart ≡ false) × (at + all_bytes chart ≤ length out.old) }
-    ensures { out.new ≡ take at out.old ++ chart_bytes chart (cell chart (drop at out.old))
-        ++ drop (at + all_bytes chart) out.old }
+// Clears the padding of a chart's rows. Each row's last byte has it.
+fn clear_padding(chart: Chart, part: &mut [u8])
+    requires { (bad_sides chart ≡ false) × (length part.old ≡ all_bytes chart) }
+    ensures { part.new ≡ chart_bytes chart (cell chart part.old) }
 {
     let row = chart::row_bytes(chart.width);
     let padding = row * 8 - chart.width;
-    let mut end = at;
-    let mut y = 0;
-    while y < chart.height {
-        end += row;
-        out[end - 1] = cleared(out[end - 1], padding);
-        y += 1;
+    let mut next = 0;
+    for _ in 0..chart.height {
+        next += row;
+        part[next - 1] = cleared(part[next - 1], padding);
     }
 }
 

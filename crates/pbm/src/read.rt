@@ -7,45 +7,39 @@ ghost use Rattle.pbm.specs.Read.{read_behind, read_of};
 ghost use Rattle.pbm.specs.inside.Places.{place_of, header_at, image_of, behind_image, has_image, set_of};
 
 use crate::Picture;
-use crate::header::{Head, Header, Place, raster, read_header};
+use crate::header::{Header, raster, read_header};
 use crate::plain::{digits_end, pack_rows};
 use crate::raw::{all_bytes, copy_rows};
 use chart::Chart;
 use point::Refusal;
 
 // Reads the picture at the start of `file` into `pixels`. All of it is judged before anything is written.
-pub fn read_pbm(file: &[u8], pixels: &mut [u8]) -> Picture
+pub fn read_pbm(file: &[u8], pixels: &mut [u8]) -> Result<Picture, Refusal>
     ensures { record { answer = result; out = pixels.new } ≡ read_of file.now pixels.old }
 {
-    let Head::Is(head) = read_header(file) else {
-        return Picture::Refused(Refusal::BadPicture);
-    };
+    let head = read_header(file).ok_or(Refusal::BadPicture)?;
     read_behind(file, head, pixels)
 }
 
 // Reads on behind a header: its sizes are judged first.
-fn read_behind(file: &[u8], head: Header, pixels: &mut [u8]) -> Picture
+fn read_behind(file: &[u8], head: Header, pixels: &mut [u8]) -> Result<Picture, Refusal>
     ensures { record { answer = result; out = pixels.new } ≡ read_behind file.now (header_at file.now head) pixels.old }
 {
     let chart = head.chart;
     if chart::bad_sides(chart) {
-        return Picture::Refused(Refusal::BadSize);
+        return Err(Refusal::BadSize);
     }
-    let Place::At(from) = raster(file, head.end) else {
-        return Picture::Refused(Refusal::BadPicture);
-    };
-    let Place::At(end) = image_end(file, from, head.plain, chart) else {
-        return Picture::Refused(Refusal::BadPicture);
-    };
+    let from = raster(file, head.end).ok_or(Refusal::BadPicture)?;
+    let end = image_end(file, from, head.plain, chart).ok_or(Refusal::BadPicture)?;
     if pixels.len() < all_bytes(chart) {
-        return Picture::Refused(Refusal::NoRoom);
+        return Err(Refusal::NoRoom);
     }
     lay(file, from, head.plain, chart, pixels);
-    Picture::Read { chart, bytes: end }
+    Ok(Picture { chart, bytes: end })
 }
 
-// The place behind the image; nowhere, if it is not whole.
-fn image_end(file: &[u8], from: usize, plain: bool, chart: Chart) -> Place
+// The place behind the image; none, if it is not whole.
+fn image_end(file: &[u8], from: usize, plain: bool, chart: Chart) -> Option<usize>
     requires { (bad_sides chart ≡ false) × (from ≤ length file.now) }
     ensures { result ≡ place_of file.now (behind_image (image_of plain chart (drop from file.now))) }
 {
@@ -54,9 +48,9 @@ fn image_end(file: &[u8], from: usize, plain: bool, chart: Chart) -> Place
     }
     let bytes = all_bytes(chart);
     if file.len() - from < bytes {
-        return Place::Nowhere;
+        return None;
     }
-    Place::At(from + bytes)
+    Some(from + bytes)
 }
 
 // Lays an image that is whole over the start of `pixels`.
@@ -69,5 +63,6 @@ fn lay(file: &[u8], from: usize, plain: bool, chart: Chart, pixels: &mut [u8])
         pack_rows(file, from, chart, pixels);
         return;
     }
-    copy_rows(chart, &file[from..], pixels, 0);
+    let bytes = all_bytes(chart);
+    copy_rows(chart, &file[from..], &mut pixels[..bytes]);
 }

@@ -2,29 +2,30 @@
 ghost use Rattle.std.specs.Prelude.{◌+◌, ◌≤◌, false, [], ◌∷◌, ◌++◌, ◌≡◌, length};
 ghost use Rattle.laws.specs.Lists.{over};
 ghost use Rattle.chart.specs.Pixels.{all_bytes, bad_sides};
-ghost use Rattle.texts.specs.Put.{put};
+ghost use Rattle.texts.specs.Put.{held, put_by};
 ghost use Rattle.texts.specs.Text.{natural_text};
 ghost use Rattle.pbm.specs.Write.{head_text, written_of};
 
 use crate::raw::{all_bytes, copy_rows};
 use chart::Chart;
-use point::{Answer, Refusal};
+use point::Refusal;
+use texts::Pen;
 
 // Writes a chart to `out`: `P4`, newline, width, space, height, newline, and the rows with their padding
 // cleared. Counted are bytes.
-pub fn write_pbm(chart: Chart, pixels: &[u8], out: &mut [u8]) -> Answer
+pub fn write_pbm(chart: Chart, pixels: &[u8], out: &mut [u8]) -> Result<usize, Refusal>
     ensures { record { answer = result; out = out.new } ≡ written_of chart pixels.now out.old }
 {
     if chart::bad_chart(chart, pixels) {
-        return Answer::Refused(Refusal::BadSize);
+        return Err(Refusal::BadSize);
     }
     let bytes = file_bytes(chart);
     if out.len() < bytes {
-        return Answer::Refused(Refusal::NoRoom);
+        return Err(Refusal::NoRoom);
     }
     let end = put_head(chart, out);
-    copy_rows(chart, pixels, out, end);
-    Answer::Done(bytes)
+    copy_rows(chart, pixels, &mut out[end..bytes]);
+    Ok(bytes)
 }
 
 // How many bytes a picture takes. Its header is put into scratch memory, which 11 bytes are enough for.
@@ -41,18 +42,19 @@ fn put_head(chart: Chart, out: &mut [u8]) -> usize
     requires { length (head_text chart) ≤ length out.old }
     ensures { (result ≡ length (head_text chart)) × (out.new ≡ over (head_text chart) out.old) }
 {
-    out[0] = b'P';
-    out[1] = b'4';
-    out[2] = b'\n';
-    let end = put_size(chart.width, b' ', out, 3);
-    put_size(chart.height, b'\n', out, end)
+    let mut pen = Pen { out, at: 0 };
+    pen.put_bytes(b"P4\n");
+    put_size(chart.width, b' ', &mut pen);
+    put_size(chart.height, b'\n', &mut pen);
+    pen.at
 }
 
 // Puts a size and the byte behind it.
-fn put_size(size: usize, behind: u8, out: &mut [u8], at: usize) -> usize
-    requires { at + length (natural_text size ++ (behind ∷ [])) ≤ length out.old }
-    ensures { record { answer = result; out = out.new } ≡ put (natural_text size ++ (behind ∷ [])) out.old at }
+fn put_size(size: usize, behind: u8, pen: &mut Pen)
+    requires { pen.old.at + length (natural_text size ++ (behind ∷ [])) ≤ length pen.old.out.now }
+    ensures put { held pen.new ≡ put_by pen.old (natural_text size ++ (behind ∷ [])) }
+    ensures same { pen.new.out.ghost_name ≡ pen.old.out.ghost_name }
 {
-    let end = texts::put_natural(size as u64, out, at);
-    texts::put_byte(behind, out, end)
+    pen.put_natural(size as u64);
+    pen.put_byte(behind);
 }

@@ -3,27 +3,27 @@ use Prim.Native.Nat.{ℕ, zero, suc, ◌*◌}
 use mathlib.Core.List.{List, [], ◌∷◌}
 use mathlib.Core.Path.{◌≡◌, refl}
 use lib.IntN.{ℤ, pos, negsuc}
+use Rattle.std.specs.Prelude.{Option, Some, None, Result, Ok, Err}
 use Rattle.point.specs.declared.PointI32.{PointI32}
+use Rattle.point.specs.declared.refusal.Refusal.{Refusal}
 use Rattle.spiral.specs.Spiral.{fresh_spiral, spiral_turn}
-use Rattle.spiral.specs.declared.Fresh.{Fresh}
 use Rattle.spiral.specs.declared.SpiralWalker.{SpiralWalker}
-use Rattle.spiral.specs.declared.Turn.{Turn}
-use Rattle.spiral.specs.declared.Turn.TheVariants.{At, End, Refused}
+use Rattle.spiral.specs.declared.Step.{Step}
 
 -- the points of so many steps, or of those before the first that answers none
 unfoldable pub points_of : ℕ → SpiralWalker → List PointI32
 points_of zero s = []
 points_of (suc steps) s = after (spiral_turn s) (λ next. points_of steps next)
   where
-    after : Turn → (SpiralWalker → List PointI32) → List PointI32
-    after (At p next) on = p ∷ on next
-    after End on = []
-    after (Refused r) on = []
+    after : Result (Option Step) Refusal → (SpiralWalker → List PointI32) → List PointI32
+    after (Ok (Some step)) on = step.point ∷ on step.next
+    after (Ok None) on = []
+    after (Err r) on = []
 
 -- the points of a fresh spiral: a refused one has none
-abbrev pub fresh_points : ℕ → Fresh → List PointI32
-fresh_points steps (Fresh.Ready s) = points_of steps s
-fresh_points steps (Fresh.Refused r) = []
+abbrev pub fresh_points : ℕ → Result SpiralWalker Refusal → List PointI32
+fresh_points steps (Ok s) = points_of steps s
+fresh_points steps (Err r) = []
 
 -- all the points of the spiral of a size: one step more than its square has cells, so that the last answers none
 abbrev pub spiral_points : ℕ → List PointI32

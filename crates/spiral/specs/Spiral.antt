@@ -1,16 +1,15 @@
 -- Document 01, "Spiral": the Rust's SpiralWalker, one step at a time. Odd sizes from 3 leave the square, as there.
-use Rattle.std.specs.Prelude.{ℕ, ◌+◌, ◌*◌, ◌/◌, ◌%◌, Bool, not, ◌&&◌, ltb, leb, eqb, ℤ, pos, negsuc, nat_abs, ◌+ℤ◌, ◌-ℤ◌, if◌then◌else◌}
-use Rattle.std.proofs.Math.Option.{Option, some, none}
+-- `Option` is the code's own, of a step or a point; `Maybe` is that of a list of refusals.
+use Rattle.std.specs.Prelude.{ℕ, ◌+◌, ◌*◌, ◌/◌, ◌%◌, Bool, not, ◌&&◌, ltb, leb, eqb, ℤ, pos, negsuc, nat_abs, ◌+ℤ◌, ◌-ℤ◌, if◌then◌else◌, Option, Some, None, Result, Ok, Err}
+use Rattle.std.proofs.Math.Option.{Option as Maybe, some, none}
 use Rattle.std.specs.Int.Signed.{le_z, lt_z}
+use Rattle.laws.specs.Outcome.{Outcome}
 use Rattle.point.specs.Refusals.{refuse◌when◌or◌}
+use Rattle.point.specs.declared.PointI32.{PointI32}
 use Rattle.point.specs.declared.refusal.Refusal.{Refusal}
 use Rattle.point.specs.declared.refusal.Refusal.TheVariants.{BadSize}
 use Rattle.spiral.specs.declared.SpiralWalker.{SpiralWalker}
-use Rattle.spiral.specs.declared.Fresh.{Fresh}
-use Rattle.spiral.specs.declared.AdvancedOutcome.{AdvancedOutcome}
-use Rattle.spiral.specs.declared.Advanced.{Advanced}
-use Rattle.spiral.specs.declared.Turn.{Turn}
-use Rattle.spiral.specs.declared.Turn.TheVariants.{At, End, Refused}
+use Rattle.spiral.specs.declared.Step.{Step}
 
 -- ---- the fresh state for a size
 
@@ -28,12 +27,12 @@ fresh_state size = record {
   step = 0;
 }
 
-abbrev pub fresh_answer : Option Refusal → ℕ → Fresh
-fresh_answer (some r) size = Fresh.Refused r
-fresh_answer none size = Fresh.Ready (fresh_state size)
+abbrev pub fresh_answer : Maybe Refusal → ℕ → Result SpiralWalker Refusal
+fresh_answer (some r) size = Err r
+fresh_answer none size = Ok (fresh_state size)
 
 -- "Spiral size 0 to 512"
-abbrev pub fresh_spiral : ℕ → Fresh
+abbrev pub fresh_spiral : ℕ → Result SpiralWalker Refusal
 fresh_spiral size = fresh_answer (refuse BadSize when ltb 512 size or none) size
 
 -- ---- a step
@@ -118,23 +117,23 @@ abbrev pub alone : SpiralWalker → SpiralWalker
 alone s = record { x = s.x; y = s.y; dir = s.dir; gx = s.gx; gy = s.gy; sq = s.sq; cc = s.cc; area = s.area; step = s.step + 1 }
 
 -- "one step, which answers a point or none": the point that the state stands on, with the next state
-abbrev pub turn_answer : Option Refusal → SpiralWalker → Turn
-turn_answer (some r) s = Refused r
+abbrev pub turn_answer : Maybe Refusal → SpiralWalker → Result (Option Step) Refusal
+turn_answer (some r) s = Err r
 turn_answer none s =
-    if leb s.area s.step then End else
-    if eqb s.area 1 then At (record { x = pos 0; y = pos 0 }) (alone s) else
-    At (record { x = s.x; y = s.y }) (onward s)
+    if leb s.area s.step then Ok None else
+    if eqb s.area 1 then Ok (Some (record { point = record { x = pos 0; y = pos 0 }; next = alone s })) else
+    Ok (Some (record { point = record { x = s.x; y = s.y }; next = onward s }))
 
-abbrev pub spiral_turn : SpiralWalker → Turn
+abbrev pub spiral_turn : SpiralWalker → Result (Option Step) Refusal
 spiral_turn s = turn_answer (refuse BadSize when not (sound s) or none) s
 
 -- ---- a step of the caller's own struct
 
 -- a point comes with the next state; "a refused step leaves the state as it came", and so does one that answers none
-abbrev pub advanced_by : Turn → SpiralWalker → AdvancedOutcome
-advanced_by (At p next) s = record { answer = Advanced.At p; spiral = next }
-advanced_by End s = record { answer = Advanced.End; spiral = s }
-advanced_by (Refused r) s = record { answer = Advanced.Refused r; spiral = s }
+abbrev pub advanced_by : Result (Option Step) Refusal → SpiralWalker → Outcome (Result (Option PointI32) Refusal) SpiralWalker
+advanced_by (Ok (Some step)) s = record { answer = Ok (Some step.point); out = step.next }
+advanced_by (Ok None) s = record { answer = Ok None; out = s }
+advanced_by (Err r) s = record { answer = Err r; out = s }
 
-abbrev pub advanced : SpiralWalker → AdvancedOutcome
+abbrev pub advanced : SpiralWalker → Outcome (Result (Option PointI32) Refusal) SpiralWalker
 advanced s = advanced_by (spiral_turn s) s

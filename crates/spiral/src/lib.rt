@@ -5,14 +5,14 @@
 // caller's own struct.
 #![tactic(auto)]
 
-mod answers;
 mod places;
 mod turning;
 
 use point::{PointI32, Refusal};
 pub use turning::{spiral, spiral_advance, spiral_step};
 
-// Where such a walk stands, and how it goes on: clockwise, y down.
+// Where such a walk stands, and how it goes on: clockwise, y down. Its fields are those of a struct in C, and so
+// `dir` is a number and no enum.
 #[repr(C)]
 #[derive(Clone, Copy)]
 pub struct SpiralWalker {
@@ -32,32 +32,9 @@ pub struct SpiralWalker {
     pub step: usize,
 }
 
-// A spiral that has not begun.
+// A step of a spiral: the point that it stood on, and the spiral one place on.
 #[derive(Clone, Copy)]
-pub enum Fresh {
-    Ready(SpiralWalker),
-    Refused(Refusal),
-}
-
-// What a step of a spiral answers: the point that it stood on, with the next state, or none.
-#[derive(Clone, Copy)]
-pub enum Turn {
-    At(PointI32, SpiralWalker),
-    End,
-    Refused(Refusal),
-}
-
-// What a step in the caller's own struct answers: the point that the spiral stood on, or none.
-#[derive(Clone, Copy)]
-pub enum Advanced {
-    At(PointI32),
-    End,
-    Refused(Refusal),
-}
-
-// That answer, with the state that the struct holds afterwards.
-#[derive(Clone, Copy)]
-pub struct AdvancedOutcome {
-    pub answer: Advanced,
-    pub spiral: SpiralWalker,
+pub struct Step {
+    pub point: PointI32,
+    pub next: SpiralWalker,
 }

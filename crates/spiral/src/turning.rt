@@ -3,18 +3,18 @@ ghost use Rattle.std.specs.Prelude.{◌≡◌};
 ghost use Rattle.spiral.specs.Spiral.{fresh_spiral, spiral_turn, advanced, between, placed, paced, sound};
 
 use crate::places::onward;
-use crate::{Advanced, AdvancedOutcome, Fresh, SpiralWalker, Turn};
+use crate::{SpiralWalker, Step};
 use point::{PointI32, Refusal};
 
 // The spiral of a square of `size` by `size`, before its first step.
-pub fn spiral(size: usize) -> Fresh
+pub fn spiral(size: usize) -> Result<SpiralWalker, Refusal>
     ensures { result ≡ fresh_spiral size }
 {
     if 512 < size {
-        return Fresh::Refused(Refusal::BadSize);
+        return Err(Refusal::BadSize);
     }
     let middle = (size / 2) as i32 - 1;
-    Fresh::Ready(SpiralWalker {
+    Ok(SpiralWalker {
         x: middle,
         y: middle,
         dir: 0,
@@ -27,51 +27,40 @@ pub fn spiral(size: usize) -> Fresh
     })
 }
 
-// One step: the point that the spiral stands on, with the spiral one place on.
-pub fn spiral_step(s: SpiralWalker) -> Turn
+// One step: the point that the spiral stands on, with the spiral one place on, or none at its end.
+pub fn spiral_step(s: SpiralWalker) -> Result<Option<Step>, Refusal>
     ensures { result ≡ spiral_turn s }
 {
     if !sound(s) {
-        return Turn::Refused(Refusal::BadSize);
+        return Err(Refusal::BadSize);
     }
     if s.area <= s.step {
-        return Turn::End;
+        return Ok(None);
     }
     if s.area == 1 {
-        let mut next = s;
-        next.step = s.step + 1;
-        return Turn::At(PointI32 { x: 0, y: 0 }, next);
+        return Ok(Some(Step {
+            point: PointI32 { x: 0, y: 0 },
+            next: SpiralWalker {
+                step: s.step + 1,
+                ..s
+            },
+        }));
     }
-    Turn::At(PointI32 { x: s.x, y: s.y }, onward(s))
+    Ok(Some(Step {
+        point: PointI32 { x: s.x, y: s.y },
+        next: onward(s),
+    }))
 }
 
 // One step of the caller's own spiral. Where there is no point the spiral stays as it came.
-pub fn spiral_advance(s: &mut SpiralWalker) -> Advanced
-    ensures { record { answer = result; spiral = s.new } ≡ advanced s.old }
+pub fn spiral_advance(s: &mut SpiralWalker) -> Result<Option<PointI32>, Refusal>
+    ensures { record { answer = result; out = s.new } ≡ advanced s.old }
 {
-    let next = advance(*s);
-    *s = next.spiral;
-    next.answer
-}
-
-// The answer of a step, with the spiral after it.
-fn advance(s: SpiralWalker) -> AdvancedOutcome
-    ensures { result ≡ advanced s }
-{
-    match spiral_step(s) {
-        Turn::At(point, next) => AdvancedOutcome {
-            answer: Advanced::At(point),
-            spiral: next,
-        },
-        Turn::End => AdvancedOutcome {
-            answer: Advanced::End,
-            spiral: s,
-        },
-        Turn::Refused(refusal) => AdvancedOutcome {
-            answer: Advanced::Refused(refusal),
-            spiral: s,
-        },
-    }
+    let Some(step) = spiral_step(*s)? else {
+        return Ok(None);
+    };
+    *s = step.next;
+    Ok(Some(step.point))
 }
 
 // Whether every field of the state is in range.

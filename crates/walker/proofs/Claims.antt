@@ -10,22 +10,20 @@ use lib.Dec.{ltb}
 use lib.IntN.{ℤ}
 use lib.ListN.{length}
 use borrow.Author.Tests.{ltb-false}
+use Rattle.std.specs.Prelude.{Result, Ok, Err}
 use Rattle.laws.specs.Lists.{over}
 use Rattle.laws.proofs.Determined.{Determined, same}
 use Rattle.point.specs.Limits.{in_range}
 use Rattle.point.specs.Outcomes.{outcome}
 use Rattle.point.specs.Points.{flat}
-use Rattle.point.specs.Refusals.{refuse◌when◌or◌}
+use Rattle.point.specs.Refusals.{refuse◌when◌or◌, number_of, count_of}
 use Rattle.point.specs.declared.PointI32.{PointI32}
 use Rattle.point.specs.declared.refusal.Refusal.{Refusal}
-use Rattle.point.specs.declared.refusal.Refusal.TheVariants.{BadSize, BadPoint, NoRoom}
+use Rattle.point.specs.declared.refusal.Refusal.TheVariants.{BadSize, BadPoint, NoWay, Stuck, NoRoom}
 use Rattle.chart.specs.Pixels.{bad_chart, pixel_at, around_of}
 use Rattle.chart.specs.declared.Chart.{Chart}
 use Rattle.walker.specs.Walk.{Pixels, Way, Walker, exit, taken, at_start, moved, ends, run, Walk, closed, no_way, stuck, after, walk_from, Outlined, ended, walk_refusal, walked}
-use Rattle.walker.specs.Answers.{walked_number, walked_count}
 use Rattle.walker.specs.inside.Course.{first_exit, went_on}
-use Rattle.walker.specs.declared.Walked.{Walked}
-use Rattle.walker.specs.declared.Walked.TheVariants.{Done, NoWay, Stuck, Refused}
 use Rattle.walker.proofs.exits.Tables.{Begins}
 use Rattle.walker.proofs.WayBack.{Along, along_stood, along_on, taken_first, no_exit_taken, none_taken}
 use Rattle.walker.proofs.ShortRuns.{room_most, on_lattice}
@@ -33,8 +31,6 @@ use Rattle.walker.proofs.run.Runs.{placed}
 use Rattle.walker.proofs.course.Follow.{whole_run, follow_is, on_edge}
 use Rattle.walker.proofs.course.Returns.{found, from_none, from_some, always_found}
 use Rattle.walker.proofs.course.walk.Reads.{Post as Walking}
-use Rattle.walker.proofs.Walked.number.Reads.{Post as WalkedNumber}
-use Rattle.walker.proofs.Walked.count.Reads.{Post as WalkedCount}
 
 -- ---- Each contract leaves no choice: of equal arguments it allows one answer, and one last content of the buffer. `Post` is the contract
 -- itself, as Rattle reads it off the source, at arguments `a`, a result `r` and parameters at exit `s`.
@@ -44,67 +40,55 @@ pub walk_determined : Determined (Chart × List ℕ × PointI32 × Bool × List 
     (λ _ r s. record { answer = r; out = s.1.1.1.1.0.now })
 walk_determined = same (λ x. walked x.0 x.1 x.2 x.3 x.4) (λ _ a r s p. p)
 
-pub walked_number_determined : Determined Walked ℕ WalkedNumber (λ _ a. a.0) (λ _ r s. r)
-walked_number_determined = same walked_number (λ _ a r s p. p)
-
-pub walked_count_determined : Determined Walked ℕ WalkedCount (λ _ a. a.0) (λ _ r s. r)
-walked_count_determined = same walked_count (λ _ a r s p. p)
-
 -- ---- What an answer says of the buffer.
 
 -- an outline in a buffer of which it is known whether it is too short
 abbrev pub laid_if : List PointI32 → List ℤ → Bool → Outlined
-laid_if ps out full = outcome Refused (refuse NoRoom when full or none) out (record { answer = Done (length ps); out = over (flat ps) out })
+laid_if ps out full = outcome (refuse NoRoom when full or none) out (record { answer = Ok (length ps); out = over (flat ps) out })
 
-abbrev is_done : Walked → ℕ
-is_done (Done n) = 1
-is_done NoWay = 0
-is_done Stuck = 0
-is_done (Refused r) = 0
-
-not_done : (a : Walked) (n : ℕ) → is_done a ≡ 0 → a ≡ Done n → ⊥
-not_done a n z e = omega (arith, sym z ∙ ap is_done e)
+not_done : (r : Refusal) (n : ℕ) → ◌≡◌ {A = Result ℕ Refusal} (Err r) (Ok n) → ⊥
+not_done r n e = let z : ◌≡◌ {A = ℕ} 0 1 = cc in omega arith
 
 module _ (c : Chart) (pixels : List ℕ) (start : PointI32) (cw : Bool) (out : List ℤ) where
-  laid_unchanged : (ps : List PointI32) (full : Bool) → ((n : ℕ) → (laid_if ps out full).answer ≡ Done n → ⊥) → (laid_if ps out full).out ≡ out
+  laid_unchanged : (ps : List PointI32) (full : Bool) → ((n : ℕ) → (laid_if ps out full).answer ≡ Ok n → ⊥) → (laid_if ps out full).out ≡ out
   unfolding outcome
   laid_unchanged ps true h = refl
   laid_unchanged ps false h = absurd (h (length ps) refl)
 
-  ended_unchanged : (w : Walk) → ((n : ℕ) → (ended w out).answer ≡ Done n → ⊥) → (ended w out).out ≡ out
+  ended_unchanged : (w : Walk) → ((n : ℕ) → (ended w out).answer ≡ Ok n → ⊥) → (ended w out).out ≡ out
   ended_unchanged (closed ps) h = laid_unchanged ps (ltb (length out) (length ps * 2)) h
   ended_unchanged no_way h = refl
   ended_unchanged stuck h = refl
 
-  -- Any answer but Done leaves the buffer as it was: a refusal, NoWay and Stuck.
-  pub unless_done_unchanged : ((n : ℕ) → (walked c pixels start cw out).answer ≡ Done n → ⊥) → (walked c pixels start cw out).out ≡ out
+  -- Any answer but a count leaves the buffer as it was: every refusal, NoWay and Stuck too.
+  pub unless_done_unchanged : ((n : ℕ) → (walked c pixels start cw out).answer ≡ Ok n → ⊥) → (walked c pixels start cw out).out ≡ out
   unfolding walked
   unless_done_unchanged = by_refusal (walk_refusal c pixels start)
     where
-      by_refusal : (o : Option Refusal) → ((n : ℕ) → (outcome Refused o out (ended (walk_from (pixel_at c pixels) cw start) out)).answer ≡ Done n → ⊥) →
-          (outcome Refused o out (ended (walk_from (pixel_at c pixels) cw start) out)).out ≡ out
+      by_refusal : (o : Option Refusal) → ((n : ℕ) → (outcome o out (ended (walk_from (pixel_at c pixels) cw start) out)).answer ≡ Ok n → ⊥) →
+          (outcome o out (ended (walk_from (pixel_at c pixels) cw start) out)).out ≡ out
       by_refusal (some r) h = refl
       by_refusal none h = ended_unchanged (walk_from (pixel_at c pixels) cw start) h
 
-  laid_fits : (ps : List PointI32) (full : Bool) (n : ℕ) → ltb (length out) (length ps * 2) ≡ full → (laid_if ps out full).answer ≡ Done n → n * 2 ≤ length out
+  laid_fits : (ps : List PointI32) (full : Bool) (n : ℕ) → ltb (length out) (length ps * 2) ≡ full → (laid_if ps out full).answer ≡ Ok n → n * 2 ≤ length out
   unfolding outcome
-  laid_fits ps true n f e = absurd (not_done (laid_if ps out true).answer n refl e)
+  laid_fits ps true n f e = absurd (not_done NoRoom n e)
   laid_fits ps false n f e =
-      let m : length ps ≡ n = ap walked_count e in
+      let m : length ps ≡ n = ap count_of e in
       omega (arith, ltb-false (length out) (length ps * 2) f)
 
-  ended_fits : (w : Walk) (n : ℕ) → (ended w out).answer ≡ Done n → n * 2 ≤ length out
+  ended_fits : (w : Walk) (n : ℕ) → (ended w out).answer ≡ Ok n → n * 2 ≤ length out
   ended_fits (closed ps) n e = laid_fits ps (ltb (length out) (length ps * 2)) n refl e
-  ended_fits no_way n e = absurd (not_done NoWay n refl e)
-  ended_fits stuck n e = absurd (not_done Stuck n refl e)
+  ended_fits no_way n e = absurd (not_done NoWay n e)
+  ended_fits stuck n e = absurd (not_done Stuck n e)
 
   -- What is written fits.
-  pub fits : (n : ℕ) → (walked c pixels start cw out).answer ≡ Done n → n * 2 ≤ length out
+  pub fits : (n : ℕ) → (walked c pixels start cw out).answer ≡ Ok n → n * 2 ≤ length out
   unfolding walked
   fits n = by_refusal (walk_refusal c pixels start)
     where
-      by_refusal : (o : Option Refusal) → (outcome Refused o out (ended (walk_from (pixel_at c pixels) cw start) out)).answer ≡ Done n → n * 2 ≤ length out
-      by_refusal (some r) e = absurd (not_done (Refused r) n refl e)
+      by_refusal : (o : Option Refusal) → (outcome o out (ended (walk_from (pixel_at c pixels) cw start) out)).answer ≡ Ok n → n * 2 ≤ length out
+      by_refusal (some r) e = absurd (not_done r n e)
       by_refusal none e = ended_fits (walk_from (pixel_at c pixels) cw start) n e
 
 -- ---- Where a walk comes, and that it goes on: "the first exit not leading to `prev` or `prev_prev`" is there after every step, so that no
@@ -143,25 +127,16 @@ module _ (c : Chart) (pixels : List ℕ) (cw : Bool) (start : PointI32) where
 
 -- ---- NoWay: "the start has no exit".
 
-abbrev is_no_way : Walked → ℕ
-is_no_way (Done n) = 0
-is_no_way NoWay = 1
-is_no_way Stuck = 0
-is_no_way (Refused r) = 0
-
-other : (a : Walked) → is_no_way a ≡ 0 → a ≡ NoWay → ⊥
-other a z e = omega (arith, sym z ∙ ap is_no_way e)
-
-laid_other : (ps : List PointI32) (out : List ℤ) (full : Bool) → (laid_if ps out full).answer ≡ NoWay → ⊥
+laid_other : (ps : List PointI32) (out : List ℤ) (full : Bool) → (laid_if ps out full).answer ≡ Err NoWay → ⊥
 unfolding outcome
-laid_other ps out true e = other (laid_if ps out true).answer refl e
-laid_other ps out false e = other (laid_if ps out false).answer refl e
+laid_other ps out true e = omega (arith, ap number_of e)
+laid_other ps out false e = omega (arith, ap number_of e)
 
 -- a walk that has begun ends otherwise
-begun_other : (start : PointI32) (out : List ℤ) (w : Walk) → found w ≡ true → (ended (after start w) out).answer ≡ NoWay → ⊥
+begun_other : (start : PointI32) (out : List ℤ) (w : Walk) → found w ≡ true → (ended (after start w) out).answer ≡ Err NoWay → ⊥
 begun_other start out (closed ps) h e = laid_other (start ∷ ps) out (ltb (length out) (length (start ∷ ps) * 2)) e
 begun_other start out no_way h e = true≢false (sym h)
-begun_other start out stuck h e = other Stuck refl e
+begun_other start out stuck h e = omega (arith, ap number_of e)
 
 pub both_in : (a b : Bool) → not (a && b) ≡ false → (a ≡ true) × (b ≡ true)
 both_in true true e = (refl, refl)
@@ -174,30 +149,30 @@ module _ (c : Chart) (pixels : List ℕ) (start : PointI32) (cw : Bool) (out : L
 
   -- a walk of a chart in range finds no way only where no direction at the start is an exit
   from_start : bad_chart c pixels ≡ false → (o : Option Way) → taken (pixel_at c pixels) cw (at_start start) ≡ o →
-      (ended (walk_from (pixel_at c pixels) cw start) out).answer ≡ NoWay → (d : Way) → exit (pixel_at c pixels) start d ≡ false
+      (ended (walk_from (pixel_at c pixels) cw start) out).answer ≡ Err NoWay → (d : Way) → exit (pixel_at c pixels) start d ≡ false
   from_start good none e h = no_exit_taken (pixel_at c pixels) cw start e
   from_start good (some k) e h =
       let a = reached_along c pixels cw start (at_start start) k begun e in
       absurd (begun_other start out (went_on c pixels cw start 1000002 (placed (at_start start) k))
       (always_found c pixels cw good start 1000002 (placed (at_start start) k) (on_edge c pixels (at_start start) k a))
-      (subst (λ (w : Walk). (ended w out).answer ≡ NoWay) (from_some (pixel_at c pixels) cw start k e ∙ ap (after start) (follow_is c pixels cw good start 1000002 (at_start start) k a)) h))
+      (subst (λ (w : Walk). (ended w out).answer ≡ Err NoWay) (from_some (pixel_at c pixels) cw start k e ∙ ap (after start) (follow_is c pixels cw good start 1000002 (at_start start) k a)) h))
 
-  pub no_way_only : (walked c pixels start cw out).answer ≡ NoWay → Blocked
+  pub no_way_only : (walked c pixels start cw out).answer ≡ Err NoWay → Blocked
   unfolding walked
   no_way_only = by_tests (bad_chart c pixels) (not (in_range start.x && in_range start.y)) refl refl
     where
       by_tests : (bad far : Bool) → bad_chart c pixels ≡ bad → not (in_range start.x && in_range start.y) ≡ far →
-          (outcome Refused (refuse BadSize when bad or refuse BadPoint when far or none) out (ended (walk_from (pixel_at c pixels) cw start) out)).answer ≡ NoWay → Blocked
-      by_tests true far p q e = absurd (other (Refused BadSize) refl e)
-      by_tests false true p q e = absurd (other (Refused BadPoint) refl e)
+          (outcome (refuse BadSize when bad or refuse BadPoint when far or none) out (ended (walk_from (pixel_at c pixels) cw start) out)).answer ≡ Err NoWay → Blocked
+      by_tests true far p q e = absurd (omega (arith, ap number_of e))
+      by_tests false true p q e = absurd (omega (arith, ap number_of e))
       by_tests false false p q e =
           let b = both_in (in_range start.x) (in_range start.y) q in
           (p, b.0, b.1, from_start p (taken (pixel_at c pixels) cw (at_start start)) refl e)
 
-  pub no_way_where : Blocked → (walked c pixels start cw out).answer ≡ NoWay
+  pub no_way_where : Blocked → (walked c pixels start cw out).answer ≡ Err NoWay
   unfolding walked
   no_way_where b = rw (b.0, b.1, b.2, from_none (pixel_at c pixels) cw start (none_taken (pixel_at c pixels) cw start b.3))
 
   -- NoWay is given exactly where the chart and the start are in range and no direction at the start is an exit.
-  pub no_way_exactly : ((walked c pixels start cw out).answer ≡ NoWay) ↔ Blocked
+  pub no_way_exactly : ((walked c pixels start cw out).answer ≡ Err NoWay) ↔ Blocked
   no_way_exactly = (no_way_only, no_way_where)

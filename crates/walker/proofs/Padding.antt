@@ -16,15 +16,14 @@ use Rattle.chart.specs.Pixels.{all_bytes, pixel_at}
 use Rattle.chart.specs.declared.Chart.{Chart}
 use Rattle.chart.proofs.Padding.{SamePixels, padding_is_not_read_pixel, same_behind}
 use Rattle.walker.specs.Walk.{Pixels, walk_from, ended, walk_refusal, walked}
-use Rattle.walker.specs.declared.Walked.TheVariants.{Refused}
 
 module _ (c : Chart) (p q : List ℕ) (same : SamePixels c p q) (start : PointI32) (clockwise : Bool) (out : List ℤ) where
   pub padding_is_not_read_walk : walked c p start clockwise out ≡ walked c q start clockwise out
   unfolding walked
   padding_is_not_read_walk =
-      ap (λ (b : Bool). outcome Refused (refuse BadSize when b or refuse BadPoint when not (in_range start.x && in_range start.y) or none) out
+      ap (λ (b : Bool). outcome (refuse BadSize when b or refuse BadPoint when not (in_range start.x && in_range start.y) or none) out
       (ended (walk_from (pixel_at c p) clockwise start) out)) same.refused
-      ∙ ap (λ (set : Pixels). outcome Refused (walk_refusal c q start) out (ended (walk_from set clockwise start) out)) (λ i x y. padding_is_not_read_pixel c p q same x y i)
+      ∙ ap (λ (set : Pixels). outcome (walk_refusal c q start) out (ended (walk_from set clockwise start) out)) (λ i x y. padding_is_not_read_pixel c p q same x y i)
 
 -- bytes behind the last row
 pub behind_is_not_read_walk : (c : Chart) (p more : List ℕ) → all_bytes c ≤ length p → (start : PointI32) (clockwise : Bool) (out : List ℤ) →

@@ -11,18 +11,17 @@ use lib.Dec.{ltb}
 use lib.IntN.{ℤ}
 use lib.ListN.{length}
 use borrow.Author.Tests.{ltb-true, ltb-false}
+use Rattle.std.specs.Prelude.{Err}
 use Rattle.point.specs.Points.{same_point}
 use Rattle.point.specs.Limits.{in_range}
 use Rattle.point.specs.Outcomes.{outcome}
-use Rattle.point.specs.Refusals.{refuse◌when◌or◌}
+use Rattle.point.specs.Refusals.{refuse◌when◌or◌, number_of}
 use Rattle.point.specs.declared.PointI32.{PointI32}
-use Rattle.point.specs.declared.refusal.Refusal.TheVariants.{BadSize, BadPoint}
+use Rattle.point.specs.declared.refusal.Refusal.TheVariants.{BadSize, BadPoint, Stuck}
 use Rattle.chart.specs.Pixels.{bad_chart, pixel_at}
 use Rattle.chart.specs.declared.Chart.{Chart}
 use Rattle.walker.specs.Walk.{Pixels, Way, up, right, down, left, Walker, same_way, taken, at_start, moved, Run, ends, nowhere, run, Walk, closed, no_way, stuck, after, follow, walk_from, ended, walked}
-use Rattle.walker.specs.Answers.{walked_number}
 use Rattle.walker.proofs.Limit.{EndsAt, turns, goes_on, Runs, none_yet, one_more, TooLong, FirstTooLong}
-use Rattle.walker.specs.declared.Walked.TheVariants.{Stuck, Refused}
 use Rattle.walker.proofs.run.Runs.{same_way_lem, walker_step, ran, placed}
 use Rattle.point.proofs.SamePoint.{same_point_lem, test_same}
 use Rattle.walker.proofs.WayBack.{Along}
@@ -295,36 +294,36 @@ module _ (c : Chart) (pixels : List ℕ) (cw : Bool) (good : bad_chart c pixels 
 
 -- ---- what `walk` answers
 
-laid_not : (ps : List PointI32) (out : List ℤ) (full : Bool) → (laid_if ps out full).answer ≡ Stuck → ⊥
+laid_not : (ps : List PointI32) (out : List ℤ) (full : Bool) → (laid_if ps out full).answer ≡ Err Stuck → ⊥
 unfolding outcome
-laid_not ps out true e = omega (arith, ap walked_number e)
-laid_not ps out false e = omega (arith, ap walked_number e)
+laid_not ps out true e = omega (arith, ap number_of e)
+laid_not ps out false e = omega (arith, ap number_of e)
 
-ended_stuck : (w : Walk) (out : List ℤ) → (ended w out).answer ≡ Stuck → w ≡ stuck
+ended_stuck : (w : Walk) (out : List ℤ) → (ended w out).answer ≡ Err Stuck → w ≡ stuck
 ended_stuck (closed ps) out e = absurd (laid_not ps out (ltb (length out) (length ps * 2)) e)
-ended_stuck no_way out e = absurd (omega (arith, ap walked_number e))
+ended_stuck no_way out e = absurd (omega (arith, ap number_of e))
 ended_stuck stuck out e = refl
 
 module _ (c : Chart) (pixels : List ℕ) (start : PointI32) (cw : Bool) (out : List ℤ) where
   abbrev PastTheLimit : Type 0
   PastTheLimit = (bad_chart c pixels ≡ false) × (in_range start.x ≡ true) × (in_range start.y ≡ true) × TooLong (pixel_at c pixels) cw start
 
-  pub stuck_only : (walked c pixels start cw out).answer ≡ Stuck → PastTheLimit
+  pub stuck_only : (walked c pixels start cw out).answer ≡ Err Stuck → PastTheLimit
   unfolding walked
   stuck_only = by_tests (bad_chart c pixels) (not (in_range start.x && in_range start.y)) refl refl
     where
       by_tests : (bad far : Bool) → bad_chart c pixels ≡ bad → not (in_range start.x && in_range start.y) ≡ far →
-          (outcome Refused (refuse BadSize when bad or refuse BadPoint when far or none) out (ended (walk_from (pixel_at c pixels) cw start) out)).answer ≡ Stuck → PastTheLimit
-      by_tests true far p q e = absurd (omega (arith, ap walked_number e))
-      by_tests false true p q e = absurd (omega (arith, ap walked_number e))
+          (outcome (refuse BadSize when bad or refuse BadPoint when far or none) out (ended (walk_from (pixel_at c pixels) cw start) out)).answer ≡ Err Stuck → PastTheLimit
+      by_tests true far p q e = absurd (omega (arith, ap number_of e))
+      by_tests false true p q e = absurd (omega (arith, ap number_of e))
       by_tests false false p q e =
           let b = both_in (in_range start.x) (in_range start.y) q in
           (p, b.0, b.1, (stuck_at_the_first c pixels cw p start (ended_stuck (walk_from (pixel_at c pixels) cw start) out e)).long)
 
-  pub stuck_where : PastTheLimit → (walked c pixels start cw out).answer ≡ Stuck
+  pub stuck_where : PastTheLimit → (walked c pixels start cw out).answer ≡ Err Stuck
   unfolding walked
   stuck_where b = rw (b.0, b.1, b.2, too_long_is_stuck c pixels cw b.0 start b.3)
 
   -- Stuck is given exactly where the chart and the start are in range and some run ends past 1,000,000 steps before one ends on the start.
-  pub stuck_exactly : ((walked c pixels start cw out).answer ≡ Stuck) ↔ PastTheLimit
+  pub stuck_exactly : ((walked c pixels start cw out).answer ≡ Err Stuck) ↔ PastTheLimit
   stuck_exactly = (stuck_only, stuck_where)

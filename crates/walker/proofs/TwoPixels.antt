@@ -6,12 +6,13 @@ use mathlib.Core.List.{List, [], ◌∷◌}
 use mathlib.Core.Path.{◌≡◌, refl, sym, ap, ◌∙◌}
 use native.Mathlib.Omega.{arith}
 use lib.IntN.{ℤ, pos, nat_abs}
+use Rattle.std.specs.Prelude.{Err}
 use Rattle.point.specs.declared.PointI32.{PointI32}
+use Rattle.point.specs.declared.refusal.Refusal.TheVariants.{Stuck}
 use Rattle.chart.specs.Pixels.{pixel_at, bad_chart}
 use Rattle.chart.specs.declared.Chart.{Chart}
 use Rattle.walker.specs.Walk.{Pixels, Way, up, right, down, left, Walker, taken, moved, walked}
 use Rattle.walker.proofs.Limit.{EndsAt, turns, goes_on, Runs, none_yet, one_more, TooLong}
-use Rattle.walker.specs.declared.Walked.TheVariants.{Stuck}
 use Rattle.walker.proofs.Stuck.{apart, runs_one, stuck_where}
 
 abbrev chart : Chart
@@ -117,6 +118,6 @@ too_long = record {
         let b = after k in
         not_start b.walker b.way b.corner (ap (λ (w : Walker). w.curr) (sym (runs_one set true start (suc k) v b.walker e b.way r b.runs).0) ∙ p)
 
-pub two_pixels_are_stuck : (out : List ℤ) → (walked chart bytes start true out).answer ≡ Stuck
+pub two_pixels_are_stuck : (out : List ℤ) → (walked chart bytes start true out).answer ≡ Err Stuck
 unfolding bad_chart
 two_pixels_are_stuck out = stuck_where chart bytes start true out (refl, refl, refl, too_long)

@@ -1,5 +1,5 @@
 -- Document 01, "Walk": the outline of a chart from a start.
-use Rattle.std.specs.Prelude.{ℕ, zero, suc, ◌*◌, Bool, true, false, not, ◌&&◌, List, [], ◌∷◌, ltb, eqb, ℤ, pos, ◌+ℤ◌, ◌-ℤ◌, length}
+use Rattle.std.specs.Prelude.{ℕ, zero, suc, ◌*◌, Bool, true, false, not, ◌&&◌, List, [], ◌∷◌, ltb, eqb, ℤ, pos, ◌+ℤ◌, ◌-ℤ◌, length, Result, Ok, Err}
 use Rattle.std.specs.Bool.{beq}
 use Rattle.std.proofs.Math.Option.{Option, some, none}
 use Rattle.laws.specs.Lists.{over}
@@ -10,11 +10,9 @@ use Rattle.point.specs.Points.{flat, same_point}
 use Rattle.point.specs.Refusals.{refuse◌when◌or◌}
 use Rattle.point.specs.declared.PointI32.{PointI32}
 use Rattle.point.specs.declared.refusal.Refusal.{Refusal}
-use Rattle.point.specs.declared.refusal.Refusal.TheVariants.{BadSize, BadPoint, NoRoom}
+use Rattle.point.specs.declared.refusal.Refusal.TheVariants.{BadSize, BadPoint, NoWay, Stuck, NoRoom}
 use Rattle.chart.specs.Pixels.{pixel_at, bad_chart}
 use Rattle.chart.specs.declared.Chart.{Chart}
-use Rattle.walker.specs.declared.Walked.{Walked}
-use Rattle.walker.specs.declared.Walked.TheVariants.{Done, NoWay, Stuck, Refused}
 
 -- ---- a chart here is the question whether the pixel at x, y is set, and a lattice point is the top left corner of the pixel at x, y
 
@@ -140,17 +138,17 @@ walk_from set clockwise start = elim (taken set clockwise (at_start start)) [
 -- ---- what `walk` answers, and what the buffer lent to it then holds
 
 abbrev pub Outlined : Type 0
-Outlined = Outcome Walked (List ℤ)
+Outlined = Outcome (Result ℕ Refusal) (List ℤ)
 
 -- an outline at the start of a buffer, and counted. NoRoom is "output .. too small": "A walk needs as many places as its outline has points."
 abbrev pub laid : List PointI32 → List ℤ → Outlined
-laid ps out = outcome Refused (refuse NoRoom when ltb (length out) (length ps * 2) or none) out (record { answer = Done (length ps); out = over (flat ps) out })
+laid ps out = outcome (refuse NoRoom when ltb (length out) (length ps * 2) or none) out (record { answer = Ok (length ps); out = over (flat ps) out })
 
 -- what comes of a walk: one that finds no way, or is stuck, leaves the buffer as it was, as a refusal does
 abbrev pub ended : Walk → List ℤ → Outlined
 ended (closed ps) out = laid ps out
-ended no_way out = record { answer = NoWay; out = out }
-ended stuck out = record { answer = Stuck; out = out }
+ended no_way out = record { answer = Err NoWay; out = out }
+ended stuck out = record { answer = Err Stuck; out = out }
 
 abbrev pub walk_refusal : Chart → List ℕ → PointI32 → Option Refusal
 walk_refusal c pixels start =
@@ -160,4 +158,4 @@ walk_refusal c pixels start =
 
 unfoldable pub walked : Chart → List ℕ → PointI32 → Bool → List ℤ → Outlined
 unfolding walk_from outcome over flat
-walked c pixels start clockwise out = outcome Refused (walk_refusal c pixels start) out (ended (walk_from (pixel_at c pixels) clockwise start) out)
+walked c pixels start clockwise out = outcome (walk_refusal c pixels start) out (ended (walk_from (pixel_at c pixels) clockwise start) out)

@@ -1,98 +1,76 @@
 // The walk along an outline, run by run.
-ghost use Rattle.std.specs.Prelude.{◌+◌, ◌<◌, false, not, ◌&&◌, ◌≡◌, length, set};
-ghost use Rattle.point.specs.Limits.{in_range};
+ghost use Rattle.std.specs.Prelude.{◌+◌, ◌<◌, false, ◌≡◌, length, set};
 ghost use Rattle.chart.specs.Pixels.{bad_chart};
 ghost use Rattle.walker.specs.Walk.{walked};
 ghost use Rattle.walker.specs.inside.Course.{OnEdge, rest, place_of, counted, HasRoom, written};
 
-use crate::Walked;
-use crate::exits::{NONE, way_in};
-use crate::run::{Place, is_on, run};
+use crate::exits::way_in;
+use crate::run::{is_on, place_of, run};
 use chart::Chart;
-use point::{PointI32, Refusal};
+use point::{PointI32, Ranged, Refusal};
 
 // After a run, a walk of more steps than these is stuck.
 const LIMIT: u32 = 1000000;
 
 // Puts the outline of what is set at the start of `out`: the start, and the end of each run until
 // one ends on the start. Any other answer leaves `out` as it was.
+#[tactic(auto, using(crate::proofs::course::Returns::answers))]
 pub fn walk(
     chart: Chart,
     pixels: &[u8],
     start: PointI32,
     clockwise: bool,
     out: &mut [i32],
-) -> Walked
+) -> Result<usize, Refusal>
     ensures { record { answer = result; out = out.new }
         ≡ walked chart pixels.now start clockwise out.old }
 {
     if chart::bad_chart(chart, pixels) {
-        return Walked::Refused(Refusal::BadSize);
+        return Err(Refusal::BadSize);
     }
-    if out_of_range(start) {
-        return Walked::Refused(Refusal::BadPoint);
+    if !start.in_range() {
+        return Err(Refusal::BadPoint);
     }
-    let way = way_in(chart, pixels, start, clockwise);
-    if way == NONE {
-        return Walked::NoWay;
-    }
-    let points = count(chart, pixels, start, way, clockwise);
-    if points == 0 {
-        return Walked::Stuck;
-    }
+    let way = way_in(chart, pixels, start, clockwise).ok_or(Refusal::NoWay)?;
+    let points = count(chart, pixels, start, way, clockwise).ok_or(Refusal::Stuck)?;
     if out.len() / 2 < points {
-        return Walked::Refused(Refusal::NoRoom);
+        return Err(Refusal::NoRoom);
     }
     write(chart, pixels, start, way, clockwise, out);
-    Walked::Done(points)
+    Ok(points)
 }
 
-// Whether a coordinate of the start is out of range.
-fn out_of_range(start: PointI32) -> bool
-    ensures { result ≡ not (in_range start.x && in_range start.y) }
-{
-    if !point::in_range(start.x) {
-        return true;
-    }
-    !point::in_range(start.y)
-}
-
-// How many points the outline from `start` has, or 0 where the walk is stuck.
-fn count(chart: Chart, pixels: &[u8], start: PointI32, way: u8, clockwise: bool) -> usize
+// How many points the outline from `start` has, or none where the walk is stuck.
+#[tactic(auto, using(crate::proofs::course::Counting::counting))]
+fn count(chart: Chart, pixels: &[u8], start: PointI32, way: u8, clockwise: bool) -> Option<usize>
     requires { (bad_chart chart pixels.now ≡ false) × OnEdge chart pixels.now (place_of start way) }
     ensures { result ≡ counted 1 (rest chart pixels.now clockwise start (place_of start way)) }
 {
-    let mut at = Place {
-        x: start.x,
-        y: start.y,
-        way: way,
-        steps: 0,
-    };
+    let mut at = place_of(start, way);
     let mut points = 1;
     loop {
         at = run(chart, pixels, at, clockwise);
         points += 1;
         if LIMIT < at.steps {
-            return 0;
+            return None;
         }
         if is_on(start, at) {
-            return points;
+            return Some(points);
         }
     }
 }
 
 // Writes the outline from `start`, which ends and has room.
+//
+// Counting and writing stay two loops: one for both would look at the limit in the second pass too.
+// Places are counted by hand: a loop over the buffer's pairs would add a test for each of them.
+#[tactic(auto, using(crate::proofs::course::Writing::writing))]
 fn write(chart: Chart, pixels: &[u8], start: PointI32, way: u8, clockwise: bool, out: &mut [i32])
     requires { (bad_chart chart pixels.now ≡ false) × OnEdge chart pixels.now (place_of start way)
         × HasRoom out.old (rest chart pixels.now clockwise start (place_of start way)) }
     ensures { out.new ≡ written out.old start (rest chart pixels.now clockwise start (place_of start way)) }
 {
-    let mut pen = Place {
-        x: start.x,
-        y: start.y,
-        way: way,
-        steps: 0,
-    };
+    let mut pen = place_of(start, way);
     put(out, 0, start.x, start.y);
     let mut i = 2;
     loop {

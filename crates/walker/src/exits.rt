@@ -2,29 +2,30 @@
 //
 // Directions are 0 up, 1 right, 2 down, 3 left. What lies around a lattice point, as
 // `chart::around` numbers it, says which of them are exits: those whose two side pixels differ.
+//
+// A direction stays a number, and no enum: it is what two bits of a word of exits hold.
 ghost use Rattle.std.specs.Prelude.{◌*◌, ◌/◌, ◌%◌, ◌^◌, ◌<◌, ◌≡◌};
 ghost use Rattle.chart.specs.Pixels.{around_of};
-ghost use Rattle.walker.specs.inside.Course.{across, downward, ExitsAfter, FirstExits, first_exit};
+ghost use Rattle.walker.specs.inside.Course.{across, downward, ExitsAfter, FirstExits, first_exit, found_exit};
 
 use chart::Chart;
 use point::PointI32;
 
-// What is not a direction.
-pub(crate) const NONE: u8 = 4;
-
-// The exit taken from the start; NONE where there is none.
-pub(crate) fn way_in(chart: Chart, pixels: &[u8], start: PointI32, clockwise: bool) -> u8
-    ensures { result ≡ first_exit (around_of chart pixels.now start.x start.y) clockwise }
+// The exit taken from the start, if there is one.
+#[tactic(auto, using(crate::proofs::run::Running::around_small))]
+pub(crate) fn way_in(chart: Chart, pixels: &[u8], start: PointI32, clockwise: bool) -> Option<u8>
+    ensures { result ≡ found_exit (first_exit (around_of chart pixels.now start.x start.y) clockwise) }
 {
     first_exit(chart::around(chart, pixels, start.x, start.y), clockwise)
 }
 
 // The exit taken from the start, by the number of what lies around it.
-fn first_exit(around: u8, clockwise: bool) -> u8
+fn first_exit(around: u8, clockwise: bool) -> Option<u8>
     requires { around < 16 }
-    ensures { result ≡ first_exit around clockwise }
+    ensures { result ≡ found_exit (first_exit around clockwise) }
 {
-    ((first_exits(clockwise) >> (4 * around)) % 16) as u8
+    let way = ((first_exits(clockwise) >> (4 * around)) % 16) as u8;
+    if way < 4 { Some(way) } else { None }
 }
 
 // The exits taken from the start, four bits for each of the sixteen numbers that `chart::around` gives.
@@ -56,28 +57,16 @@ pub(crate) fn exits_after(way: u8, clockwise: bool) -> u32
     requires { way < 4 }
     ensures { ExitsAfter result clockwise way }
 {
-    if clockwise {
-        if way == 0 {
-            return 0x1d00_0074;
-        }
-        if way == 1 {
-            return 0x1900_0064;
-        }
-        if way == 2 {
-            return 0x1967_d964;
-        }
-        return 0x2b00_00e8;
+    match (clockwise, way) {
+        (true, 0) => 0x1d00_0074,
+        (true, 1) => 0x1900_0064,
+        (true, 2) => 0x1967_d964,
+        (true, _) => 0x2b00_00e8,
+        (false, 0) => 0x1f4f_f1f4,
+        (false, 1) => 0x2968_2968,
+        (false, 2) => 0x2f6f_f9f8,
+        (false, _) => 0x2f2f_f8f8,
     }
-    if way == 0 {
-        return 0x1f4f_f1f4;
-    }
-    if way == 1 {
-        return 0x2968_2968;
-    }
-    if way == 2 {
-        return 0x2f6f_f9f8;
-    }
-    0x2f2f_f8f8
 }
 
 // The exit that such bits have for what lies around.
@@ -88,28 +77,27 @@ pub(crate) fn exit_in(exits: u32, around: u8) -> u8
     ((exits >> (2 * around)) % 4) as u8
 }
 
-// How far a step in a direction goes to the right.
+// How far a step in a direction goes to the right. For each coordinate there is a function, as there is a definition:
+// one for both would hand out a point that is taken apart at once.
+#[tactic(auto, unfolding(crate::specs::inside::Course::across))]
 pub(crate) fn across(way: u8) -> i32
     ensures { result ≡ across way }
 {
-    if way == 1 {
-        return 1;
+    match way {
+        1 => 1,
+        3 => -1,
+        _ => 0,
     }
-    if way == 3 {
-        return -1;
-    }
-    0
 }
 
 // How far a step in a direction goes down.
+#[tactic(auto, unfolding(crate::specs::inside::Course::downward))]
 pub(crate) fn downward(way: u8) -> i32
     ensures { result ≡ downward way }
 {
-    if way == 2 {
-        return 1;
+    match way {
+        2 => 1,
+        0 => -1,
+        _ => 0,
     }
-    if way == 0 {
-        return -1;
-    }
-    0
 }

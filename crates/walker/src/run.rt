@@ -3,7 +3,7 @@ ghost use Rattle.std.specs.Prelude.{◌≤◌, false, ◌≡◌};
 ghost use Rattle.std.proofs.Math.Option.{some};
 ghost use Rattle.point.specs.Points.{same_point};
 ghost use Rattle.chart.specs.Pixels.{bad_chart};
-ghost use Rattle.walker.specs.inside.Course.{OnEdge, ran_on, point};
+ghost use Rattle.walker.specs.inside.Course.{OnEdge, ran_on, point, place_of};
 
 use crate::exits::{across, downward, exit_in, exits_after};
 use chart::Chart;
@@ -18,7 +18,20 @@ pub(crate) struct Place {
     pub steps: u32,
 }
 
+// Where a walk begins that takes the exit `way`.
+pub(crate) fn place_of(start: PointI32, way: u8) -> Place
+    ensures { result ≡ place_of start way }
+{
+    Place {
+        x: start.x,
+        y: start.y,
+        way,
+        steps: 0,
+    }
+}
+
 // The run from a place: it goes on until the exit taken would change direction.
+#[tactic(auto, using(crate::proofs::run::Running::running))]
 pub(crate) fn run(chart: Chart, pixels: &[u8], from: Place, clockwise: bool) -> Place
     requires { (bad_chart chart pixels.now ≡ false) × OnEdge chart pixels.now from × (from.steps ≤ 1000000) }
     ensures { ran_on chart pixels.now clockwise 600 from ≡ some result }
@@ -38,10 +51,10 @@ pub(crate) fn run(chart: Chart, pixels: &[u8], from: Place, clockwise: bool) -> 
         next = exit_in(exits, chart::around(chart, pixels, x, y));
     }
     Place {
-        x: x,
-        y: y,
+        x,
+        y,
         way: next,
-        steps: steps,
+        steps,
     }
 }
 
@@ -49,8 +62,9 @@ pub(crate) fn run(chart: Chart, pixels: &[u8], from: Place, clockwise: bool) -> 
 pub(crate) fn is_on(start: PointI32, place: Place) -> bool
     ensures { result ≡ same_point (point place) start }
 {
-    if place.x != start.x {
-        return false;
-    }
-    place.y == start.y
+    let here = PointI32 {
+        x: place.x,
+        y: place.y,
+    };
+    here == start
 }

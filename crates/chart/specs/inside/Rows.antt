@@ -1,5 +1,5 @@
 -- A chart that is not bad, and the first set pixel of a row and of a byte.
-use Rattle.std.specs.Prelude.{ℕ, ◌≤◌, ◌<◌, Bool, true, false, List, ◌≡◌, ltb, pos, length}
+use Rattle.std.specs.Prelude.{ℕ, ◌≤◌, ◌<◌, true, false, List, ◌≡◌, pos, length, Option as Found, Some, None}
 use Rattle.std.proofs.Math.Option.{Option, some, none}
 use Rattle.point.specs.declared.PointI32.{PointI32}
 use Rattle.chart.specs.Pixels.{all_bytes, bit_of}
@@ -11,16 +11,22 @@ pub record Good (c : Chart) (pixels : List ℕ) : Type 0 where
   pub high : c.height ≤ 512
   pub enough : all_bytes c ≤ length pixels
 
-abbrev pub point_if : Bool → PointI32 → Option PointI32
-point_if true p = some p
-point_if false p = none
+-- the point in a column that was found in row y
+abbrev pub in_column : ℕ → Found ℕ → Option PointI32
+in_column y (Some x) = some (record { x = pos x; y = pos y })
+in_column y None = none
 
--- the point in column x of row y, or none where x is past the last column
-unfoldable pub column_of : Chart → ℕ → ℕ → Option PointI32
-column_of c x y = point_if (ltb x c.width) (record { x = pos x; y = pos y })
-
--- r is the column of a byte's first set pixel, or 8 where it has none
-pub record FirstBit (byte r : ℕ) : Type 0 where
-  pub few : r ≤ 8
+-- a byte's first set pixel is in column r
+pub record FirstAt (byte r : ℕ) : Type 0 where
+  pub few : r < 8
   pub clear : (j : ℕ) → j < r → bit_of byte j ≡ false
-  pub set : r < 8 → bit_of byte r ≡ true
+  pub set : bit_of byte r ≡ true
+
+-- a byte has no set pixel
+pub record Clear (byte : ℕ) : Type 0 where
+  pub clear : (j : ℕ) → j < 8 → bit_of byte j ≡ false
+
+-- the column of a byte's first set pixel was found, or it has none
+abbrev pub FirstBit : ℕ → Found ℕ → Type 0
+FirstBit byte (Some r) = FirstAt byte r
+FirstBit byte None = Clear byte

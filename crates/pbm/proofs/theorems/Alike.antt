@@ -6,20 +6,21 @@ use mathlib.Core.Option.{Option, some, none}
 use mathlib.Core.Path.{◌≡◌, refl}
 use lib.Dec.{ltb}
 use lib.ListN.{length}
+use Rattle.std.specs.Prelude.{Result, Ok, Err}
+use Rattle.point.specs.declared.refusal.Refusal.{Refusal}
 use Rattle.point.specs.declared.refusal.Refusal.TheVariants.{BadPicture}
 use Rattle.chart.specs.Pixels.{all_bytes, bad_sides}
 use Rattle.chart.specs.declared.Chart.{Chart}
 use Rattle.pbm.specs.Header.{Header, header_in}
 use Rattle.pbm.specs.Raster.{Image, image_in}
-use Rattle.pbm.specs.Read.{Reading, refused, laid, read_behind, read_of}
+use Rattle.pbm.specs.Read.{Reading, refused, was_read, laid, read_behind, read_of}
 use Rattle.pbm.specs.declared.Picture.{Picture}
-use Rattle.pbm.specs.declared.Picture.TheVariants.{Read, Refused}
 use Rattle.pbm.proofs.Bytes.{chart_bytes_same}
 
 -- an answer but for how many bytes were taken
-abbrev pub uncounted : Picture → Picture
-uncounted (Read c n) = Read c 0
-uncounted (Refused r) = Refused r
+abbrev pub uncounted : Result Picture Refusal → Result Picture Refusal
+uncounted (Ok picture) = was_read picture.chart 0
+uncounted (Err r) = Err r
 
 -- the same chart or the same refusal, and the same in the buffer
 pub record ReadAlike (o o' : Reading) : Type 0 where

@@ -14,8 +14,7 @@ use Rattle.chart.proofs.Sizes.{width_within, height_within}
 use Rattle.pbm.specs.Header.{header_in}
 use Rattle.pbm.specs.Raster.{Image, image_in}
 use Rattle.pbm.specs.Bytes.{chart_bytes}
-use Rattle.pbm.specs.Read.{laid, read_of}
-use Rattle.pbm.specs.declared.Picture.TheVariants as Picture
+use Rattle.pbm.specs.Read.{was_read, laid, read_of}
 use Rattle.pbm.proofs.theorems.Front.{Front, anything}
 use Rattle.pbm.proofs.theorems.HeaderFront.{parted, headed, header_front}
 use Rattle.pbm.proofs.theorems.ImageFront.{Seen, seen, showing, image_front, image_is_parted}
@@ -113,18 +112,18 @@ module _ (file : List ℕ) (n : ℕ) (f : ImageFound file n) where
 -- ---- a file of which an image was read
 
 -- no more bytes are counted than there are
-pub taken_at_most : (file pixels : List ℕ) (c : Chart) (n : ℕ) → (read_of file pixels).answer ≡ Picture.Read c n → n ≤ length file
+pub taken_at_most : (file pixels : List ℕ) (c : Chart) (n : ℕ) → (read_of file pixels).answer ≡ was_read c n → n ≤ length file
 taken_at_most file pixels c n read = omega (arith, (image_found file pixels c n read).counted)
 
 -- those that are counted say all, whatever stands behind them
-pub nothing_behind_matters : (file more pixels : List ℕ) (c : Chart) (n : ℕ) → (read_of file pixels).answer ≡ Picture.Read c n
+pub nothing_behind_matters : (file more pixels : List ℕ) (c : Chart) (n : ℕ) → (read_of file pixels).answer ≡ was_read c n
     → read_of (take n file ++ more) pixels ≡ read_of file pixels
 nothing_behind_matters file more pixels c n read =
     let f = image_found file pixels c n read in
     rw (taken_are_the_first file n f) (same_outcome file n f more pixels)
 
 -- so more may follow the file
-pub nothing_more_matters : (file more pixels : List ℕ) (c : Chart) (n : ℕ) → (read_of file pixels).answer ≡ Picture.Read c n
+pub nothing_more_matters : (file more pixels : List ℕ) (c : Chart) (n : ℕ) → (read_of file pixels).answer ≡ was_read c n
     → read_of (file ++ more) pixels ≡ read_of file pixels
 nothing_more_matters file more pixels c n read =
     let parts : file ++ more ≡ take n file ++ (drop n file ++ more)

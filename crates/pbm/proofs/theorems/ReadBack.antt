@@ -13,9 +13,8 @@ use Rattle.chart.proofs.Sizes.{width_within, height_within}
 use Rattle.pbm.specs.Header.{Header, header_in}
 use Rattle.pbm.specs.Raster.{Image, image_in}
 use Rattle.pbm.specs.Bytes.{chart_bytes}
-use Rattle.pbm.specs.Read.{read_of}
+use Rattle.pbm.specs.Read.{was_read, read_of}
 use Rattle.pbm.specs.Write.{head_text}
-use Rattle.pbm.specs.declared.Picture.TheVariants.{Read}
 use Rattle.pbm.proofs.Bytes.{cell_append, chart_bytes_same}
 use Rattle.pbm.proofs.theorems.HeadRead.{sizes_text, raw_read, plain_read}
 use Rattle.pbm.proofs.theorems.Rasters.{digits, raw_image, plain_image, digit_image_same}
@@ -27,7 +26,7 @@ module _ (c : Chart) (set : ℕ → ℕ → Bool) (buffer : List ℕ) (fine : ba
   -- only the pixels within the chart count
   by_image : (text : List ℕ) (h : Header) (image : Image) → header_in (text ++ more) ≡ some h → h.chart ≡ c → image_in h ≡ some image → image.rest ≡ more →
       ((x y : ℕ) → x < c.width → y < c.height → image.set x y ≡ set x y) →
-      read_of (text ++ more) buffer ≡ record { answer = Read c (length text); out = over (chart_bytes c set) buffer }
+      read_of (text ++ more) buffer ≡ record { answer = was_read c (length text); out = over (chart_bytes c set) buffer }
   by_image text h image head chart whole behind same =
       let count : length (text ++ more) - length more ≡ length text = omega (arith, length-append text more) in
       let bytes : chart_bytes c image.set ≡ chart_bytes c set = chart_bytes_same c image.set set same in
@@ -36,14 +35,14 @@ module _ (c : Chart) (set : ℕ → ℕ → Bool) (buffer : List ℕ) (fine : ba
       ∙ rw (chart, behind, count, bytes)
 
   pub raw_back : read_of (head_text c ++ chart_bytes c set ++ more) buffer
-      ≡ record { answer = Read c (length (head_text c ++ chart_bytes c set)); out = over (chart_bytes c set) buffer }
+      ≡ record { answer = was_read c (length (head_text c ++ chart_bytes c set)); out = over (chart_bytes c set) buffer }
   raw_back =
       let raster = chart_bytes c set ++ more in
       let head = ap header_in (append_assoc (head_text c) (chart_bytes c set) more) ∙ raw_read c (width_within c fine).1 (height_within c fine).1 raster in
       by_image (head_text c ++ chart_bytes c set) _ _ head refl (raw_image c set more) refl (λ x y column row. cell_append c set x y row more column)
 
   pub plain_back : read_of (80 ∷ 49 ∷ sizes_text c ++ digits c set ++ more) buffer
-      ≡ record { answer = Read c (length (80 ∷ 49 ∷ sizes_text c ++ digits c set)); out = over (chart_bytes c set) buffer }
+      ≡ record { answer = was_read c (length (80 ∷ 49 ∷ sizes_text c ++ digits c set)); out = over (chart_bytes c set) buffer }
   plain_back =
       let raster = digits c set ++ more in
       let head = ap header_in (append_assoc (80 ∷ 49 ∷ sizes_text c) (digits c set) more) ∙ plain_read c (width_within c fine).1 (height_within c fine).1 raster in

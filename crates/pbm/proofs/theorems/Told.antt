@@ -4,7 +4,6 @@ use mathlib.Core.Bool.{Bool, true, false}
 use mathlib.Core.List.{List}
 use mathlib.Core.Option.{Option, some, none}
 use mathlib.Core.Path.{◌≡◌, refl, sym, ap, subst, ◌∙◌}
-use native.Mathlib.Omega.{arith}
 use lib.Dec.{ltb}
 use lib.ListN.{length}
 use borrow.Author.Tests.{ltb-true, ltb-false}
@@ -16,8 +15,9 @@ use Rattle.chart.specs.declared.Chart.{Chart}
 use Rattle.pbm.specs.Header.{Header, header_in}
 use Rattle.pbm.specs.Raster.{Image, image_in}
 use Rattle.pbm.specs.Bytes.{chart_bytes}
-use Rattle.pbm.specs.Read.{Reading, refused, laid, read_of}
-use Rattle.pbm.specs.declared.Picture.TheVariants as Picture
+use Rattle.pbm.specs.Read.{Reading, refused, was_read, laid, read_of}
+use Rattle.std.specs.Prelude.{Err}
+use Rattle.pbm.specs.declared.Picture.{Picture}
 use Rattle.pbm.proofs.Outcomes.{no_header, a_header, bad_sides_lem, no_image, an_image, no_room, room}
 
 -- an image that takes n bytes
@@ -33,7 +33,7 @@ pub record ImageFound (file : List ℕ) (n : ℕ) : Type 0 where
 pub data Told (file pixels : List ℕ) : Type 0 where
   told_refused : (r : Refusal) → read_of file pixels ≡ refused r pixels → Told file pixels
   told_read : (n : ℕ) (f : ImageFound file n) → all_bytes f.header.chart ≤ length pixels
-      → read_of file pixels ≡ record { answer = Picture.Read f.header.chart n; out = over (chart_bytes f.header.chart f.image.set) pixels }
+      → read_of file pixels ≡ record { answer = was_read f.header.chart n; out = over (chart_bytes f.header.chart f.image.set) pixels }
       → Told file pixels
 
 -- the definition, where an image is there
@@ -68,22 +68,28 @@ told file pixels = by_header (header_in file) refl
     by_header (some h) e = by_size h e (bad_sides h.chart) refl
 
 -- two kinds of answer
-pub refused_is_not_read : (r : Refusal) (c : Chart) (n : ℕ) → Picture.Refused r ≡ Picture.Read c n → ⊥
-refused_is_not_read r c n e = let z : ◌≡◌ {A = ℕ} 0 1 = cc in omega arith
+pub refused_is_not_read : (r : Refusal) (c : Chart) (n : ℕ) → Err r ≡ was_read c n → ⊥
+refused_is_not_read r c n e = cc
+
+-- what was read is one chart, and one count
+pub same_read : (c c' : Chart) (m n : ℕ) → was_read c m ≡ was_read c' n → (c ≡ c') × (m ≡ n)
+same_read c c' m n e =
+    let p : ◌≡◌ {A = Picture} (record { chart = c; bytes = m }) (record { chart = c'; bytes = n }) = cc in
+    (ap (λ (p : Picture). p.chart) p, ap (λ (p : Picture). p.bytes) p)
 
 -- an image that was read was found
-pub image_found : (file pixels : List ℕ) (c : Chart) (n : ℕ) → (read_of file pixels).answer ≡ Picture.Read c n → ImageFound file n
+pub image_found : (file pixels : List ℕ) (c : Chart) (n : ℕ) → (read_of file pixels).answer ≡ was_read c n → ImageFound file n
 image_found file pixels c n is = go (told file pixels)
   where
     go : Told file pixels → ImageFound file n
     go (told_refused r e) = absurd (refused_is_not_read r c n (ap (λ (o : Reading). o.answer) (sym e) ∙ is))
     go (told_read m f room e) =
-        let said : Picture.Read f.header.chart m ≡ Picture.Read c n = ap (λ (o : Reading). o.answer) (sym e) ∙ is in
-        let same : m ≡ n = cc in
+        let said : was_read f.header.chart m ≡ was_read c n = ap (λ (o : Reading). o.answer) (sym e) ∙ is in
+        let same : m ≡ n = (same_read f.header.chart c m n said).1 in
         subst (ImageFound file) same f
 
 -- a refusal leaves the buffer as lent
-pub refused_leaves : (file pixels : List ℕ) (r : Refusal) → (read_of file pixels).answer ≡ Picture.Refused r → (read_of file pixels).out ≡ pixels
+pub refused_leaves : (file pixels : List ℕ) (r : Refusal) → (read_of file pixels).answer ≡ Err r → (read_of file pixels).out ≡ pixels
 refused_leaves file pixels r is = go (told file pixels)
   where
     go : Told file pixels → (read_of file pixels).out ≡ pixels

@@ -7,15 +7,13 @@ use mathlib.Core.Option.{some}
 use mathlib.Core.Path.{◌≡◌, refl, sym, ap, ap₂, ◌∙◌}
 use native.Mathlib.Numerals.{add-one}
 use native.Mathlib.Omega.{arith}
-use mir.Syntax.{w32, w64}
-use mir.Val.{Fits, of_z, to_z}
-use mir.ValLaws.{to_z-of_z}
+use mir.Syntax.{w64}
+use mir.Val.{Fits}
 use lib.Dec.{ltb}
 use lib.IntN.{ℤ}
 use lib.ListN.{length, take, drop, set, length-set, take-append-drop}
 use lib.Seq.{take-suc-set, drop-set-lt, drop-drop}
 use borrow.Author.Tests.{ltb-true, ltb-false}
-use Rattle.laws.proofs.Integers.{sfits_abs}
 use Rattle.point.specs.Points.{flat, same_point}
 use Rattle.point.specs.declared.PointI32.{PointI32}
 use Rattle.point.proofs.Flat.{length_flat}
@@ -26,8 +24,6 @@ use Rattle.walker.specs.inside.Course.{OnEdge, ran_on, rest, point, place_of, po
 use Rattle.walker.specs.declared.run.Place.{Place}
 use Rattle.walker.proofs.course.Rest.{ran_facts, rest_is, judged_stuck, judged_closed, judged_on}
 use Rattle.walker.proofs.course.Follow.{judged}
-use Rattle.walker.proofs.run.Running.{small}
-use Rattle.walker.proofs.course.Counting.{place_by_bits, by_bits}
 
 -- ---- two stores
 
@@ -63,7 +59,6 @@ unfolding flat
 flat_cons p ps = refl
 
 pub record Writing (c : Chart) (pixels : List ℕ) (cw : Bool) (start : PointI32) (way : ℕ) (out₀ out : List ℤ) (at : Place) (i : ℕ) : Type 0 where
-  pub good : bad_chart c pixels ≡ false
   pub on : OnEdge c pixels at
   pub limit : at.steps ≤ 1000000
   pub same : length out ≡ length out₀
@@ -71,47 +66,37 @@ pub record Writing (c : Chart) (pixels : List ℕ) (cw : Bool) (start : PointI32
   pub begun : 2 ≤ i
   pub few : i ≤ 2 + at.steps * 2
   pub count : 2 + length (points_of (rest c pixels cw start (place_of start way))) * 2 ≡ i + length (points_of (rest c pixels cw start at)) * 2
-  pub room : 2 + length (points_of (rest c pixels cw start (place_of start way))) * 2 ≤ length out₀
   pub done : flat (start ∷ points_of (rest c pixels cw start (place_of start way))) ≡ take i out ++ flat (points_of (rest c pixels cw start at))
   pub old : drop i out ≡ drop i out₀
 
-module _ (c : Chart) (pixels : List ℕ) (cw : Bool) (start : PointI32) (way : ℕ) where
+module _ (c : Chart) (pixels : List ℕ) (cw : Bool) (start : PointI32) (way : ℕ) (out₀ : List ℤ) (good : bad_chart c pixels ≡ false)
+    (room : HasRoom out₀ (rest c pixels cw start (place_of start way))) where
   abbrev whole : Walk
   whole = rest c pixels cw start (place_of start way)
 
-  abbrev put_start : List ℤ → List ℤ
-  put_start out = set (set out 0 (to_z w32 (of_z w32 start.x))) 1 (to_z w32 (of_z w32 start.y))
+  pub write_first : OnEdge c pixels (place_of start way) → Writing c pixels cw start way out₀ (set (set out₀ 0 start.x) 1 start.y) (place_of start way) 2
+  write_first h = record {
+    on = h;
+    limit = omega arith;
+    same = put_length out₀ 0 start.x start.y;
+    ends = room.ends;
+    begun = omega arith;
+    few = omega arith;
+    count = refl;
+    done = flat_cons start (points_of whole) ∙ ap (λ (l : List ℤ). l ++ flat (points_of whole)) (sym (put_take out₀ 0 start.x start.y (omega (arith, room.room))));
+    old = put_drop out₀ 0 start.x start.y 2 (omega arith);
+  }
 
-  pub write_first : (out last : List ℤ) → bad_chart c pixels ≡ false → OnEdge c pixels (place_of start way) → HasRoom out whole → last ≡ put_start out →
-      Writing c pixels cw start way last last (place_by_bits start way) 2
-  write_first out last good h room e =
-      let b = by_bits c pixels start way good h in
-      let X = to_z w32 (of_z w32 start.x) in
-      let Y = to_z w32 (of_z w32 start.y) in
-      rw b (record {
-        good = good;
-        on = h;
-        limit = omega arith;
-        same = refl;
-        ends = room.ends;
-        begun = omega arith;
-        few = omega arith;
-        count = refl;
-        room = omega (arith, room.room, ap length e, put_length out 0 X Y);
-        done = flat_cons start (points_of whole) ∙ ap (λ (l : List ℤ). l ++ flat (points_of whole)) (sym (ap (take 2) e ∙ put_take out 0 X Y (omega (arith, room.room)) ∙ ap₂ pair (ap (λ (p : Place). p.x) b) (ap (λ (p : Place). p.y) b)));
-        old = refl;
-      })
-
-  module _ (out₀ out : List ℤ) (at : Place) (i : ℕ) (inv : Writing c pixels cw start way out₀ out at i) where
+  module _ (out : List ℤ) (at : Place) (i : ℕ) (inv : Writing c pixels cw start way out₀ out at i) where
     pub write_fits : Fits w64 (i + 2)
     write_fits = record { fits = omega (arith, inv.few, inv.limit) }
 
     module _ (q : Place) (ran : ran_on c pixels cw 600 at ≡ some q) where
       next : rest c pixels cw start at ≡ judged start q (rest c pixels cw start q)
-      next = rest_is c pixels cw inv.good start at q inv.on inv.limit ran
+      next = rest_is c pixels cw good start at q inv.on inv.limit ran
 
       facts : OnEdge c pixels q × (at.steps < q.steps) × (q.steps ≤ at.steps + 512)
-      facts = ran_facts c pixels cw inv.good at q inv.on ran
+      facts = ran_facts c pixels cw good at q inv.on ran
 
       -- the walk ends, so that it does not pass the limit
       within : q.steps ≤ 1000000
@@ -138,67 +123,51 @@ module _ (c : Chart) (pixels : List ℕ) (cw : Bool) (start : PointI32) (way : �
       write_room = go (same_point (point q) start) refl
         where
           go : (b : Bool) → same_point (point q) start ≡ b → i + 1 < length out
-          go true e = omega (arith, inv.count, inv.room, inv.same, ap length (here_is e))
-          go false e = omega (arith, inv.count, inv.room, inv.same, ap length (on_is e).1)
+          go true e = omega (arith, inv.count, room.room, inv.same, ap length (here_is e))
+          go false e = omega (arith, inv.count, room.room, inv.same, ap length (on_is e).1)
 
       -- what is stored
-      module _ (last : List ℤ) (stored : last ≡ set (set out i (to_z w32 (of_z w32 q.x))) (i + 1) (to_z w32 (of_z w32 q.y))) where
-        took : take (i + 2) last ≡ take i out ++ pair q.x q.y
-        took =
-            let s = small c pixels inv.good q facts.0 in
-            ap (take (i + 2)) stored
-            ∙ put_take out i (to_z w32 (of_z w32 q.x)) (to_z w32 (of_z w32 q.y)) write_room
-            ∙ ap (λ (l : List ℤ). take i out ++ l) (ap₂ pair (to_z-of_z w32 q.x (sfits_abs (omega arith))) (to_z-of_z w32 q.y (sfits_abs (omega arith))))
+      abbrev last : List ℤ
+      last = set (set out i q.x) (i + 1) q.y
 
-        kept : length last ≡ length out
-        kept = ap length stored ∙ put_length out i (to_z w32 (of_z w32 q.x)) (to_z w32 (of_z w32 q.y))
+      kept : length last ≡ length out₀
+      kept = put_length out i q.x q.y ∙ inv.same
 
-        left : drop (i + 2) last ≡ drop (i + 2) out₀
-        left =
-            ap (drop (i + 2)) stored
-            ∙ put_drop out i (to_z w32 (of_z w32 q.x)) (to_z w32 (of_z w32 q.y)) (i + 2) (omega arith)
-            ∙ sym (drop-drop 2 i out)
-            ∙ ap (drop 2) inv.old
-            ∙ drop-drop 2 i out₀
+      left : drop (i + 2) last ≡ drop (i + 2) out₀
+      left = put_drop out i q.x q.y (i + 2) (omega arith) ∙ sym (drop-drop 2 i out) ∙ ap (drop 2) inv.old ∙ drop-drop 2 i out₀
 
-        -- the point before the rest
-        done_next : (ps : List PointI32) → points_of (rest c pixels cw start at) ≡ point q ∷ ps → flat (start ∷ points_of whole) ≡ take (i + 2) last ++ flat ps
-        done_next ps e =
-            inv.done
-            ∙ ap (λ (l : List PointI32). take i out ++ flat l) e
-            ∙ ap (λ (l : List ℤ). take i out ++ l) (flat_cons (point q) ps)
-            ∙ sym (append_assoc (take i out) (pair q.x q.y) (flat ps))
-            ∙ ap (λ (l : List ℤ). l ++ flat ps) (sym took)
+      -- the point before the rest
+      done_next : (ps : List PointI32) → points_of (rest c pixels cw start at) ≡ point q ∷ ps → flat (start ∷ points_of whole) ≡ take (i + 2) last ++ flat ps
+      done_next ps e =
+          inv.done
+          ∙ ap (λ (l : List PointI32). take i out ++ flat l) e
+          ∙ ap (λ (l : List ℤ). take i out ++ l) (flat_cons (point q) ps)
+          ∙ sym (append_assoc (take i out) (pair q.x q.y) (flat ps))
+          ∙ ap (λ (l : List ℤ). l ++ flat ps) (sym (put_take out i q.x q.y write_room))
 
-        module _ (here : Bool) (says : here ≡ same_point (point q) start) where
-          pub write_on : here ≡ false → Writing c pixels cw start way out₀ last q (i + 2)
-          write_on e =
-              let o = on_is (sym says ∙ e) in
-              record {
-                good = inv.good;
-                on = facts.0;
-                limit = within;
-                same = kept ∙ inv.same;
-                ends = o.0;
-                begun = omega arith;
-                few = omega (arith, inv.few, facts.1);
-                count = omega (arith, inv.count, ap length o.1);
-                room = inv.room;
-                done = done_next (points_of (rest c pixels cw start q)) o.1;
-                old = left;
-              }
+      module _ (here : Bool) (says : here ≡ same_point (point q) start) where
+        pub write_on : (new : List ℤ) → new ≡ last → here ≡ false → Writing c pixels cw start way out₀ new q (i + 2)
+        write_on new stored e =
+            let o = on_is (sym says ∙ e) in
+            rw stored (record {
+              on = facts.0;
+              limit = within;
+              same = kept;
+              ends = o.0;
+              begun = omega arith;
+              few = omega (arith, inv.few, facts.1);
+              count = omega (arith, inv.count, ap length o.1);
+              done = done_next (points_of (rest c pixels cw start q)) o.1;
+              old = left;
+            })
 
-          -- the walk has ended: `old` is the buffer before the start was put there
-          module _ (old : List ℤ) (first : out₀ ≡ put_start old) where
-            pub write_length : length last ≡ length old
-            write_length = kept ∙ inv.same ∙ ap length first ∙ put_length old 0 (to_z w32 (of_z w32 start.x)) (to_z w32 (of_z w32 start.y))
+        -- the walk has ended
+        pub write_last : here ≡ true → last ≡ written out₀ start whole
+        unfolding written
+        write_last e =
+            let o = here_is (sym says ∙ e) in
+            let n : i + 2 ≡ length (flat (start ∷ points_of whole)) = omega (arith, inv.count, ap length o, length_flat (start ∷ points_of whole)) in
+            sym (take-append-drop (i + 2) last)
+            ∙ ap₂ ◌++◌ (sym (done_next [] o ∙ append-nil (take (i + 2) last))) (left ∙ ap (λ (n : ℕ). drop n out₀) n)
 
-            pub write_last : here ≡ true → last ≡ written old start whole
-            unfolding written
-            write_last e =
-                let o = here_is (sym says ∙ e) in
-                let n : i + 2 ≡ length (flat (start ∷ points_of whole)) = omega (arith, inv.count, ap length o, length_flat (start ∷ points_of whole)) in
-                sym (take-append-drop (i + 2) last)
-                ∙ ap₂ ◌++◌
-                (sym (done_next [] o ∙ append-nil (take (i + 2) last)))
-                (left ∙ ap (drop (i + 2)) first ∙ put_drop old 0 (to_z w32 (of_z w32 start.x)) (to_z w32 (of_z w32 start.y)) (i + 2) (omega arith) ∙ ap (λ (n : ℕ). drop n old) n)
+pub ruleset writing = (write_first, write_fits, write_room, write_less, write_last, write_on)

@@ -4,11 +4,10 @@ use mathlib.Core.Bool.{Bool, true, false, ◌&&◌}
 use mathlib.Core.Path.{◌≡◌, refl, sym, subst}
 use native.Mathlib.Omega.{arith}
 use lib.Dec.{T, eqb}
-use lib.IntN.{pos, negsuc}
 use lib.Ieee.Bits.{is_true}
 use lib.Ieee.Fits.{and_l, and_r}
-use borrow.Author.Tests.{eqb-true, eqb-false, ne_eqb}
-use Rattle.walker.specs.inside.Course.{across, downward, onward, first_exit, ExitsAfter, FirstExits}
+use borrow.Author.Tests.{eqb-true, eqb-false}
+use Rattle.walker.specs.inside.Course.{onward, first_exit, ExitsAfter, FirstExits}
 
 -- a test of each number below n
 abbrev pub below : (ℕ → Bool) → ℕ → Bool
@@ -44,33 +43,6 @@ module _ (word : ℕ) (cw b : Bool) (order : cw ≡ b) where
   pub first_exits : T (below (right_first word b) 16) → FirstExits word cw
   unfolding right_first
   first_exits t = rw order (record { at = λ m h. eqb-true _ _ (is_true _ (at_below (right_first word b) 16 t m h)) })
-
--- ---- steps
-
-module _ (way : ℕ) where
-  pub across_right : way ≡ 1 → pos 1 ≡ across way
-  unfolding across
-  across_right e = rw e
-
-  pub across_left : way ≡ 3 → negsuc 0 ≡ across way
-  unfolding across
-  across_left e = rw e
-
-  pub across_not : (way ≡ 1 → ⊥) → (way ≡ 3 → ⊥) → pos 0 ≡ across way
-  unfolding across
-  across_not p q = rw (ne_eqb way 1 p, ne_eqb way 3 q)
-
-  pub downward_down : way ≡ 2 → pos 1 ≡ downward way
-  unfolding downward
-  downward_down e = rw e
-
-  pub downward_up : way ≡ 0 → negsuc 0 ≡ downward way
-  unfolding downward
-  downward_up e = rw e
-
-  pub downward_not : (way ≡ 2 → ⊥) → (way ≡ 0 → ⊥) → pos 0 ≡ downward way
-  unfolding downward
-  downward_not p q = rw (ne_eqb way 2 p, ne_eqb way 0 q)
 
 -- what a word says of a number
 pub first_of : (word : ℕ) (cw : Bool) (m : ℕ) → FirstExits word cw → m < 16 → word / 2 ^ (4 * m) % 16 ≡ first_exit m cw

@@ -1,6 +1,6 @@
 -- The walk as `course.rt` follows it: a place and the exit taken from there, by the four pixels around it, in place of the two points that
 -- were passed before. That it is the walk of `Walk` is shown in proofs/course/Follow.
-use Rattle.std.specs.Prelude.{ℕ, zero, suc, ◌+◌, ◌-◌, ◌*◌, ◌/◌, ◌%◌, ◌^◌, ◌≤◌, ◌<◌, Bool, true, false, not, ◌&&◌, List, [], ◌∷◌, ◌≡◌, ltb, eqb, ℤ, pos, negsuc, ◌+ℤ◌, length, if◌then◌else◌}
+use Rattle.std.specs.Prelude.{ℕ, zero, suc, ◌+◌, ◌-◌, ◌*◌, ◌/◌, ◌%◌, ◌^◌, ◌≤◌, ◌<◌, Bool, true, false, not, ◌&&◌, List, [], ◌∷◌, ◌≡◌, ltb, eqb, ℤ, pos, negsuc, ◌+ℤ◌, length, if◌then◌else◌, Option as Found, Some, None}
 use Rattle.std.proofs.Math.Option.{Option, some, none}
 use Rattle.laws.specs.Lists.{over}
 use Rattle.point.specs.Points.{flat, same_point}
@@ -43,6 +43,10 @@ pick test (way ∷ ways) other = if test way then way else pick test ways other
 unfoldable pub first_exit : ℕ → Bool → ℕ
 unfolding pick exit_in
 first_exit m clockwise = pick (exit_in m) (ways clockwise) 4
+
+-- the exit that such a number says, if it says one
+abbrev pub found_exit : ℕ → Found ℕ
+found_exit way = if ltb way 4 then Some way else None
 
 -- the exit taken after a move in a direction: the first that does not lead back
 unfoldable pub onward : ℕ → Bool → ℕ → ℕ
@@ -112,11 +116,11 @@ module _ (c : Chart) (pixels : List ℕ) (clockwise : Bool) where
 abbrev pub place_of : PointI32 → ℕ → Place
 place_of start way = record { x = start.x; y = start.y; way = way; steps = 0 }
 
--- how many points a walk has behind so many others; 0 where it does not end
-abbrev pub counted : ℕ → Walk → ℕ
-counted n (closed ps) = n + length ps
-counted n no_way = 0
-counted n stuck = 0
+-- how many points a walk has behind so many others, where it ends
+abbrev pub counted : ℕ → Walk → Found ℕ
+counted n (closed ps) = Some (n + length ps)
+counted n no_way = None
+counted n stuck = None
 
 abbrev pub points_of : Walk → List PointI32
 points_of (closed ps) = ps
