@@ -10,6 +10,3 @@ use Rattle.laws.proofs.Integers.{sfits_abs}
 
 pub wide_by_bits : (z : ℤ) → nat_abs z ≤ 2147221512000 → to_z w64 (of_z w64 z) ≡ z
 wide_by_bits z h = to_z-of_z w64 z (sfits_abs (omega arith))
-
-pub small_by_bits : (z : ℤ) → nat_abs z ≤ 2147221512 → nat_abs (to_z w64 (of_z w64 z)) ≤ 2147221512
-small_by_bits z h = rw (wide_by_bits z (omega arith)) h

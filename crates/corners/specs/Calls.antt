@@ -1,5 +1,5 @@
 -- What `find_corners` refuses and answers, and what the flags lent to it then hold.
-use Rattle.std.specs.Prelude.{ℕ, Bool, not, ◌&&◌, List, ltb, eqb, ℤ, pos, negsuc, length}
+use Rattle.std.specs.Prelude.{ℕ, Bool, not, ◌&&◌, List, ltb, eqb, ℤ, pos, negsuc, length, Result, Ok}
 use Rattle.std.proofs.Math.Option.{Option, none}
 use Rattle.std.specs.Int.Signed.{le_z}
 use Rattle.laws.specs.Lists.{over}
@@ -8,8 +8,6 @@ use Rattle.point.specs.Limits.{too_many, bad_points}
 use Rattle.point.specs.Outcomes.{outcome}
 use Rattle.point.specs.Points.{count, seen}
 use Rattle.point.specs.Refusals.{refuse◌when◌or◌}
-use Rattle.point.specs.declared.refusal.Answer.{Answer}
-use Rattle.point.specs.declared.refusal.Answer.TheVariants.{Done, Refused}
 use Rattle.point.specs.declared.refusal.Refusal.{Refusal}
 use Rattle.point.specs.declared.refusal.Refusal.TheVariants.{TooMany, BadPoint, TooFew, BadSettings, NoRoom}
 use Rattle.corners.specs.declared.Pair.{Pair}
@@ -30,10 +28,10 @@ corners_refusal list pair closed room =
     none
 
 -- a flag for each point that is looked at, and how many those are
-unfoldable pub flagged : List ℤ → Pair → Bool → List ℕ → Outcome Answer (List ℕ)
+unfoldable pub flagged : List ℤ → Pair → Bool → List ℕ → Outcome (Result ℕ Refusal) (List ℕ)
 unfolding corners_of over
-flagged list pair closed flags = record { answer = Done (seen (count list) closed); out = over (corners_of list pair closed) flags }
+flagged list pair closed flags = record { answer = Ok (seen (count list) closed); out = over (corners_of list pair closed) flags }
 
-unfoldable pub find_corners_of : List ℤ → Pair → Bool → List ℕ → Outcome Answer (List ℕ)
+unfoldable pub find_corners_of : List ℤ → Pair → Bool → List ℕ → Outcome (Result ℕ Refusal) (List ℕ)
 unfolding outcome flagged
-find_corners_of list pair closed flags = outcome Refused (corners_refusal list pair closed (length flags)) flags (flagged list pair closed flags)
+find_corners_of list pair closed flags = outcome (corners_refusal list pair closed (length flags)) flags (flagged list pair closed flags)

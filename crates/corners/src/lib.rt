@@ -7,13 +7,14 @@
 
 mod flags;
 mod nearest;
+mod outline;
 mod turns;
 
 pub use flags::find_corners;
 
 // The angle from which on a turn is a corner: `c` and `s` are proportional to its cosine and sine, so
 // that 0 and 1 stand for 90 degrees.
-#[derive(Clone, Copy)]
+#[derive(Clone, Copy, PartialEq, Eq)]
 pub struct Pair {
     pub c: i32,
     pub s: i32,

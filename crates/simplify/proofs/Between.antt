@@ -1,6 +1,6 @@
 -- What stands between the two passes: of a list that is not refused the first hands on a list that the second does not refuse either.
 -- Assumes nothing.
-use Prim.Native.Nat.{ℕ, ◌*◌, ◌-◌, ◌≤◌}
+use Prim.Native.Nat.{ℕ, ◌*◌, ◌≤◌}
 use mathlib.Core.Bool.{Bool}
 use mathlib.Core.List.{List}
 use mathlib.Core.Option.{none}
@@ -13,20 +13,18 @@ use Rattle.laws.proofs.Lists.{take_over_all}
 use Rattle.point.specs.Limits.{places_for}
 use Rattle.point.specs.Points.{flat, points, count}
 use Rattle.point.specs.Refusals.{count_of}
-use Rattle.point.specs.declared.refusal.Answer.{Answer}
 use Rattle.point.specs.declared.PointI32.{PointI32}
 use Rattle.point.proofs.Flat.{length_flat, length_points, count_flat}
 use Rattle.point.proofs.Room.{places_shorter}
-use Rattle.point.specs.declared.refusal.Answer.TheVariants.{Refused}
 use Rattle.point.specs.Outcomes.{Points, refusal, verdict, outcome, handed}
-use Rattle.point.specs.declared.refusal.Verdict.{Verdict}
-use Rattle.point.specs.declared.refusal.Verdict.TheVariants.{Fine}
+use Rattle.std.specs.Prelude.{Result, Ok, Err}
+use Rattle.point.specs.declared.refusal.Refusal.{Refusal}
 use Rattle.point.proofs.Verdicts.{few, good, places, not_refused}
 use Rattle.simplify.specs.Staircase.{remove_staircase, staircase_of}
 use Rattle.simplify.proofs.Claims.{remove_staircase_fits}
 use Rattle.simplify.proofs.Outward.{staircase_shorter, staircase_good, staircase_places}
 
-module _ (list : List ℤ) (clockwise : Bool) (v : Verdict) (room : ℕ) (says : v ≡ verdict (refusal list room)) (fine : v ≡ Fine) where
+module _ (list : List ℤ) (clockwise : Bool) (v : Result Unit Refusal) (room : ℕ) (says : v ≡ verdict (refusal list room)) (fine : v ≡ Ok tt) where
   abbrev left : List PointI32
   left = remove_staircase clockwise (points list)
 
@@ -46,7 +44,7 @@ module _ (list : List ℤ) (clockwise : Bool) (v : Verdict) (room : ℕ) (says :
       (rw (count_flat left) (omega (arith, staircase_places clockwise list, places list room v says fine)))
 
   -- what the first pass leaves in a list of 8,192 values
-  module _ (answer : Answer) (old between : List ℤ) (first : record { answer = answer; out = between } ≡ staircase_of list clockwise old)
+  module _ (answer : Result ℕ Refusal) (old between : List ℤ) (first : record { answer = answer; out = between } ≡ staircase_of list clockwise old)
       (long : length between ≡ 8192) where
     old_long : length old ≡ 8192
     old_long = sym (remove_staircase_fits list old clockwise).long ∙ ap (λ (o : Points). length o.out) (sym first) ∙ long
@@ -55,19 +53,26 @@ module _ (list : List ℤ) (clockwise : Bool) (v : Verdict) (room : ℕ) (says :
     unfolding staircase_of
     done =
         first
-        ∙ ap (λ (n : ℕ). outcome Refused (refusal list n) old (handed left old)) old_long
-        ∙ ap (λ o. outcome Refused o old (handed left old)) first_goes_on
+        ∙ ap (λ (n : ℕ). outcome (refusal list n) old (handed left old)) old_long
+        ∙ ap (λ o. outcome o old (handed left old)) first_goes_on
 
-    module _ (kept : ℕ) (e : kept ≡ count_of answer) where
+    answered : answer ≡ Ok (length left)
+    unfolding handed
+    answered = ap (λ (o : Points). o.answer) done
+
+    -- it is not refused
+    pub not_err : (r : Refusal) → answer ≡ Err r → ⊥
+    not_err r e = let f : ◌≡◌ {A = Result ℕ Refusal} (Err r) (Ok (length left)) = sym e ∙ answered in cc
+
+    module _ (kept : ℕ) (e : answer ≡ Ok kept) where
       kept_is : kept ≡ length left
-      unfolding handed
-      kept_is = e ∙ ap (λ (o : Points). count_of o.answer) done
+      kept_is = ap count_of (sym e ∙ answered)
 
       pub kept_short : kept * 2 ≤ 8192
       kept_short = omega (arith, kept_is, short)
 
-      pub middle : take (kept * 2 - 0) between ≡ flat left
+      pub middle : take (kept * 2) between ≡ flat left
       unfolding handed
       middle =
-          let f : kept * 2 - 0 ≡ length (flat left) = omega (arith, kept_is, length_flat left) in
-          ap (λ (o : Points). take (kept * 2 - 0) o.out) done ∙ rw f (take_over_all (flat left) old)
+          let f : kept * 2 ≡ length (flat left) = omega (arith, kept_is, length_flat left) in
+          ap (λ (o : Points). take (kept * 2) o.out) done ∙ rw f (take_over_all (flat left) old)

@@ -6,7 +6,7 @@ use native.Mathlib.Omega.{arith}
 use lib.IntN.{ℤ}
 use lib.ListN.{length}
 use Rattle.point.specs.Points.{points}
-use Rattle.point.specs.declared.refusal.Answer.TheVariants.{Refused}
+use Rattle.std.specs.Prelude.{Err}
 use Rattle.point.specs.declared.refusal.Refusal.{Refusal}
 use Rattle.point.proofs.Flat.{length_points}
 use Rattle.point.specs.Outcomes.{Points, refusal, verdict}
@@ -43,7 +43,7 @@ simplify_determined = same (λ x. simplify_of x.0 x.1 x.2) (λ _ a r s p. p)
 -- ---- what callers cite: a refusal changes nothing, what is counted fits the buffer, and the buffer keeps its length
 
 module _ (list out : List ℤ) (clockwise : Bool) where
-  pub remove_staircase_unchanged : (r : Refusal) → (staircase_of list clockwise out).answer ≡ Refused r → (staircase_of list clockwise out).out ≡ out
+  pub remove_staircase_unchanged : (r : Refusal) → (staircase_of list clockwise out).answer ≡ Err r → (staircase_of list clockwise out).out ≡ out
   unfolding staircase_of
   remove_staircase_unchanged r = passed_unchanged list (remove_staircase clockwise (points list)) out r
 
@@ -54,7 +54,7 @@ module _ (list out : List ℤ) (clockwise : Bool) where
       (λ e. omega (arith, staircase_shorter clockwise (points list), length_points list, list_fits list (length out) (verdict (refusal list (length out))) refl (ap verdict e)))
 
 module _ (list out : List ℤ) where
-  pub limit_penalties_unchanged : (r : Refusal) → (penalties_of list out).answer ≡ Refused r → (penalties_of list out).out ≡ out
+  pub limit_penalties_unchanged : (r : Refusal) → (penalties_of list out).answer ≡ Err r → (penalties_of list out).out ≡ out
   unfolding penalties_of
   limit_penalties_unchanged r = passed_unchanged list (limit_penalties (points list)) out r
 
@@ -65,7 +65,7 @@ module _ (list out : List ℤ) where
       (λ e. omega (arith, rw (length_points list) at (limit_fits (points list)), places list (length out) (verdict (refusal list (length out))) refl (ap verdict e)))
 
 module _ (list out : List ℤ) (clockwise : Bool) where
-  pub simplify_unchanged : (r : Refusal) → (simplify_of list clockwise out).answer ≡ Refused r → (simplify_of list clockwise out).out ≡ out
+  pub simplify_unchanged : (r : Refusal) → (simplify_of list clockwise out).answer ≡ Err r → (simplify_of list clockwise out).out ≡ out
   unfolding simplify_of
   simplify_unchanged r = passed_unchanged list (limit_penalties (remove_staircase clockwise (points list))) out r
 

@@ -11,7 +11,8 @@ use lib.ListN.{length, drop, get_or, drop_of_length-le}
 use lib.Seq.{drop-cons}
 use borrow.Author.Tests.{eq-eqb}
 use Rattle.laws.proofs.Joined.{both_true}
-use Rattle.point.specs.Limits.{every, in_range, bad_list, bad_points, places_for}
+use Rattle.std.specs.List.{list_all}
+use Rattle.point.specs.Limits.{in_range, bad_list, bad_points, places_for}
 use Rattle.point.specs.Points.{flat, points, count}
 use Rattle.point.specs.declared.PointI32.{PointI32}
 use Rattle.point.proofs.Claims.{whole_points, all_fine}
@@ -77,28 +78,26 @@ module _ (clockwise : Bool) where
   -- ---- they lie within the limits
 
   -- a point before two lists
-  led : (p : PointI32) (xs ys : List ℤ) → every in_range (p.x ∷ p.y ∷ xs) ≡ true → (every in_range xs ≡ true → every in_range ys ≡ true) →
-      every in_range (p.x ∷ p.y ∷ ys) ≡ true
-  unfolding every
+  led : (p : PointI32) (xs ys : List ℤ) → list_all in_range (p.x ∷ p.y ∷ xs) ≡ true → (list_all in_range xs ≡ true → list_all in_range ys ≡ true) →
+      list_all in_range (p.x ∷ p.y ∷ ys) ≡ true
   led p xs ys h f =
-      let x = both_true (in_range p.x) (in_range p.y && every in_range xs) h in
-      let y = both_true (in_range p.y) (every in_range xs) x.1 in
+      let x = both_true (in_range p.x) (in_range p.y && list_all in_range xs) h in
+      let y = both_true (in_range p.y) (list_all in_range xs) x.1 in
       rw (x.0, y.0) (f y.1)
 
-  after_point : (p : PointI32) (xs : List ℤ) → every in_range (p.x ∷ p.y ∷ xs) ≡ true → every in_range xs ≡ true
-  unfolding every
-  after_point p xs h = (both_true (in_range p.y) (every in_range xs) (both_true (in_range p.x) (in_range p.y && every in_range xs) h).1).1
+  after_point : (p : PointI32) (xs : List ℤ) → list_all in_range (p.x ∷ p.y ∷ xs) ≡ true → list_all in_range xs ≡ true
+  after_point p xs h = (both_true (in_range p.y) (list_all in_range xs) (both_true (in_range p.x) (in_range p.y && list_all in_range xs) h).1).1
 
-  from_within : (before : PointI32) (ps : List PointI32) → every in_range (flat ps) ≡ true → every in_range (flat (staircase_from clockwise before ps)) ≡ true
+  from_within : (before : PointI32) (ps : List PointI32) → list_all in_range (flat ps) ≡ true → list_all in_range (flat (staircase_from clockwise before ps)) ≡ true
   unfolding staircase_from flat
   from_within before [] h = h
   from_within before (p ∷ []) h = h
   from_within before (p ∷ q ∷ ps) h =
-      looked_at before p q ps (λ l. every in_range (flat l) ≡ true)
+      looked_at before p q ps (λ l. list_all in_range (flat l) ≡ true)
       (led p (flat (q ∷ ps)) (flat (staircase_from clockwise p (q ∷ ps))) h (from_within p (q ∷ ps)))
       (from_within p (q ∷ ps) (after_point p (flat (q ∷ ps)) h))
 
-  pub staircase_within : (ps : List PointI32) → every in_range (flat ps) ≡ true → every in_range (flat (remove_staircase clockwise ps)) ≡ true
+  pub staircase_within : (ps : List PointI32) → list_all in_range (flat ps) ≡ true → list_all in_range (flat (remove_staircase clockwise ps)) ≡ true
   unfolding remove_staircase flat
   staircase_within [] h = h
   staircase_within (p ∷ ps) h = led p (flat ps) (flat (staircase_from clockwise p ps)) h (from_within p ps)
@@ -108,7 +107,7 @@ module _ (clockwise : Bool) where
   pub staircase_good : (list : List ℤ) → bad_points list ≡ false → bad_points (flat (remove_staircase clockwise (points list))) ≡ false
   unfolding bad_list
   staircase_good list h =
-      let e : every in_range (flat (points list)) ≡ true = rw (flat_points list (whole_points in_range list h)) (all_fine in_range list h) in
+      let e : list_all in_range (flat (points list)) ≡ true = rw (flat_points list (whole_points in_range list h)) (all_fine in_range list h) in
       let even : length (flat (remove_staircase clockwise (points list))) % 2 ≡ 0 = omega (arith, length_flat (remove_staircase clockwise (points list))) in
       rw (eq-eqb _ _ even, staircase_within (points list) e)
 

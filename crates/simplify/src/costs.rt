@@ -3,7 +3,6 @@ ghost use Rattle.std.specs.Prelude.{◌<◌, false, ◌≡◌};
 ghost use Rattle.point.specs.Limits.{bad_points};
 ghost use Rattle.point.specs.Points.{points as points_of, count};
 ghost use Rattle.simplify.specs.Penalties.{too_costly};
-ghost use Rattle.simplify.specs.inside.Costs.{reaches};
 
 use crate::triangle::{evaluate_penalty, side};
 use point::point_at;
@@ -21,20 +20,10 @@ pub(crate) fn past_delta(points: &[i32], from: usize, to: usize) -> bool
     let a = point_at(points, from);
     let c = point_at(points, to);
     let l3 = side(c, a);
-    let mut k = from + 1;
-    while k < to {
-        let b = point_at(points, k);
-        k += 1;
-        if reaches(evaluate_penalty(a, b, c, l3)) {
+    for k in from + 1..to {
+        if TOLERANCE <= evaluate_penalty(a, point_at(points, k), c, l3) {
             return true;
         }
     }
     false
-}
-
-// Whether a penalty reaches the tolerance.
-fn reaches(penalty: f64) -> bool
-    ensures { result ≡ reaches penalty }
-{
-    TOLERANCE <= penalty
 }

@@ -5,20 +5,16 @@ ghost use Rattle.simplify.specs.Simplify.{simplify_of};
 
 use crate::penalties::limit_penalties;
 use crate::staircase::remove_staircase;
-use point::{Answer, Verdict, judge};
+use point::{Refusal, judge};
 
 // Puts the points that are left after both passes at the start of `out`. What the first leaves stands
 // in a list of its own.
-pub fn simplify(points: &[i32], clockwise: bool, out: &mut [i32]) -> Answer
+pub fn simplify(points: &[i32], clockwise: bool, out: &mut [i32]) -> Result<usize, Refusal>
     ensures { record { answer = result; out = out.new }
         ≡ simplify_of points.now clockwise out.old }
 {
-    match judge(points, out.len()) {
-        Verdict::Refused(refusal) => Answer::Refused(refusal),
-        Verdict::Fine => {
-            let mut between = [0i32; 8192];
-            let kept = remove_staircase(points, clockwise, &mut between).count();
-            limit_penalties(&between[0..kept * 2], out)
-        }
-    }
+    judge(points, out.len())?;
+    let mut between = [0; 8192];
+    let kept = remove_staircase(points, clockwise, &mut between)?;
+    limit_penalties(&between[..kept * 2], out)
 }

@@ -8,16 +8,14 @@ ghost use Rattle.point.specs.inside.Written.{Handed};
 ghost use Rattle.simplify.specs.Penalties.{limit_penalties, penalties_of};
 
 use crate::costs::past_delta;
-use point::{Answer, Verdict, judge, point_at, put};
+use point::{Refusal, judge, point_at, put};
 
 // Puts the points that are left at the start of `out`.
-pub fn limit_penalties(points: &[i32], out: &mut [i32]) -> Answer
+pub fn limit_penalties(points: &[i32], out: &mut [i32]) -> Result<usize, Refusal>
     ensures { record { answer = result; out = out.new } ≡ penalties_of points.now out.old }
 {
-    match judge(points, out.len()) {
-        Verdict::Refused(refusal) => Answer::Refused(refusal),
-        Verdict::Fine => Answer::Done(keep_costly(points, out)),
-    }
+    judge(points, out.len())?;
+    Ok(keep_costly(points, out))
 }
 
 // Writes the points that are kept, and answers how many that is. The first is kept in any case, of
@@ -26,19 +24,20 @@ fn keep_costly(points: &[i32], out: &mut [i32]) -> usize
     requires { (bad_points points.now ≡ false) × (length (limit_penalties (points_of points.now)) * 2 ≤ length out.old) }
     ensures { Handed (limit_penalties (points_of points.now)) out.old result out.new }
 {
-    let n = points.len() / 2;
-    if n == 0 {
-        return 0;
+    let first = point_at(points, 0);
+    match points.len() / 2 {
+        0 => 0,
+        1 => {
+            put(first, 0, out);
+            put(first, 1, out);
+            2
+        }
+        2 => {
+            put(first, 0, out);
+            1
+        }
+        _ => keep_many(points, out),
     }
-    if 2 < n {
-        return keep_many(points, out);
-    }
-    put(point_at(points, 0), 0, out);
-    if n == 2 {
-        return 1;
-    }
-    put(point_at(points, 0), 1, out);
-    2
 }
 
 // Writes what is kept of more than two points, and answers how many that is: the first, the last, and
@@ -54,12 +53,9 @@ fn keep_many(points: &[i32], out: &mut [i32]) -> usize
     put(point_at(points, 0), 0, out);
     let mut kept = 1;
     let mut last = 0;
-    let mut i = 2;
-    while i < n {
-        let costly = past_delta(points, last, i);
-        i += 1;
-        if costly {
-            last = i - 2;
+    for i in 2..n {
+        if past_delta(points, last, i) {
+            last = i - 1;
             put(point_at(points, last), kept, out);
             kept += 1;
         }

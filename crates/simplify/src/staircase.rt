@@ -6,18 +6,16 @@ ghost use Rattle.point.specs.inside.Written.{Handed};
 ghost use Rattle.simplify.specs.Staircase.{remove_staircase, staircase_of};
 
 use crate::steps::stays;
-use point::{Answer, Verdict, judge, point_at, put};
+use point::{Refusal, judge, point_at, put};
 
 // Puts the points that are left without staircases at the start of `out`. A point beside a step of
 // one pixel stays where the outline, which runs clockwise or not, turns outwards.
-pub fn remove_staircase(points: &[i32], clockwise: bool, out: &mut [i32]) -> Answer
+pub fn remove_staircase(points: &[i32], clockwise: bool, out: &mut [i32]) -> Result<usize, Refusal>
     ensures { record { answer = result; out = out.new }
         ≡ staircase_of points.now clockwise out.old }
 {
-    match judge(points, out.len()) {
-        Verdict::Refused(refusal) => Answer::Refused(refusal),
-        Verdict::Fine => Answer::Done(keep_outward(points, clockwise, out)),
-    }
+    judge(points, out.len())?;
+    Ok(keep_outward(points, clockwise, out))
 }
 
 // Writes the points that stay, the first and the last in any case, and answers how many that is.
@@ -35,17 +33,15 @@ fn keep_outward(points: &[i32], clockwise: bool, out: &mut [i32]) -> usize
         return 1;
     }
     let mut kept = 1;
-    let mut i = 1;
-    while i < n - 1 {
+    for i in 1..n - 1 {
         let p = point_at(points, i);
-        i += 1;
-        let outside = stays(before, p, point_at(points, i), clockwise);
+        let outside = stays(before, p, point_at(points, i + 1), clockwise);
         before = p;
         if outside {
             put(p, kept, out);
             kept += 1;
         }
     }
-    put(point_at(points, i), kept, out);
+    put(point_at(points, n - 1), kept, out);
     kept + 1
 }

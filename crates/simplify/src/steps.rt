@@ -1,10 +1,9 @@
 // Whether a point stays between its neighbours.
-ghost use Rattle.std.specs.Prelude.{◌≤◌, ◌≡◌, nat_abs};
+ghost use Rattle.std.specs.Prelude.{◌≡◌};
 ghost use Rattle.util.specs.Area.{signed_area};
 ghost use Rattle.point.specs.inside.Near.{Near};
 ghost use Rattle.simplify.specs.Staircase.{segment_length, outwards, stays};
 
-use crate::vector::difference;
 use point::PointI32;
 
 // Whether a point stays: beside a step of one pixel where the outline turns outwards, and else in any case.
@@ -12,10 +11,7 @@ pub(crate) fn stays(before: PointI32, p: PointI32, after: PointI32, clockwise: b
     requires { Near before × Near p × Near after }
     ensures { result ≡ stays clockwise before p after }
 {
-    if segment_length(p, before) == 1 {
-        return outwards(before, p, after, clockwise);
-    }
-    if segment_length(p, after) == 1 {
+    if segment_length(p, before) == 1 || segment_length(p, after) == 1 {
         return outwards(before, p, after, clockwise);
     }
     true
@@ -26,15 +22,13 @@ fn outwards(before: PointI32, p: PointI32, after: PointI32, clockwise: bool) -> 
     requires { Near before × Near p × Near after }
     ensures { result ≡ outwards clockwise (signed_area before p after) }
 {
-    let x1 = difference(p.x, before.x);
-    let y1 = difference(p.y, before.y);
-    let x2 = difference(after.x, before.x);
-    let y2 = difference(after.y, before.y);
-    let area = util::cross(x1, y1, x2, y2);
-    if clockwise {
-        return 0 < area;
-    }
-    area < 0
+    let area = util::cross(
+        p.x - before.x,
+        p.y - before.y,
+        after.x - before.x,
+        after.y - before.y,
+    );
+    if clockwise { 0 < area } else { area < 0 }
 }
 
 // How far two points lie apart along the axes.
@@ -42,15 +36,5 @@ fn segment_length(p: PointI32, q: PointI32) -> u32
     requires { Near p × Near q }
     ensures { result ≡ segment_length p q }
 {
-    size(difference(p.x, q.x)) + size(difference(p.y, q.y))
-}
-
-fn size(d: i32) -> u32
-    requires { nat_abs d ≤ 32766 }
-    ensures { (result ≡ nat_abs d) × (result ≤ 32766) }
-{
-    if d < 0 {
-        return -d as u32;
-    }
-    d as u32
+    (p.x - q.x).unsigned_abs() + (p.y - q.y).unsigned_abs()
 }

@@ -3,10 +3,10 @@ ghost use Rattle.std.specs.Prelude.{◌≤◌, ◌≡◌, nat_abs};
 ghost use Rattle.point.specs.inside.Near.{Near};
 ghost use Rattle.simplify.specs.Penalties.{sq, side, heron, penalty};
 
-use crate::vector::difference;
 use point::PointI32;
 
 // What it costs to leave `b` out between `a` and `c`, whose distance is handed in.
+#[tactic(auto, unfolding(crate::specs::Penalties::penalty))]
 pub(crate) fn evaluate_penalty(a: PointI32, b: PointI32, c: PointI32, l3: f64) -> f64
     requires { Near a × Near b × Near c × (l3 ≡ side c a) }
     ensures { result ≡ penalty a b c }
@@ -28,7 +28,7 @@ pub(crate) fn side(p: PointI32, q: PointI32) -> f64
     requires { Near p × Near q }
     ensures { result ≡ side p q }
 {
-    by_halves::sqrt(sq(difference(p.x, q.x)) + sq(difference(p.y, q.y)))
+    by_halves::sqrt(sq(p.x - q.x) + sq(p.y - q.y))
 }
 
 // The square of a difference.
@@ -36,5 +36,5 @@ fn sq(d: i32) -> f64
     requires { nat_abs d ≤ 32766 }
     ensures { result ≡ sq d }
 {
-    (d * d) as f64
+    f64::from(d * d)
 }

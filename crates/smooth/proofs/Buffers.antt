@@ -1,10 +1,10 @@
 -- Points and flags that are written behind those at the start of a buffer. Assumes nothing.
-use Prim.Native.Nat.{ℕ, ◌+◌, ◌*◌, ◌/◌, ◌<◌, ◌≤◌}
+use Prim.Native.Nat.{ℕ, ◌+◌, ◌*◌, ◌≤◌}
 use mathlib.Core.List.{List, [], ◌∷◌, ◌++◌, append_assoc, append-nil}
 use mathlib.Core.Path.{◌≡◌, refl, sym, ap, ◌∙◌}
 use native.Mathlib.Omega.{arith}
 use lib.Ieee.{Float}
-use lib.ListN.{length, set, length-append, length-set}
+use lib.ListN.{length, length-append}
 use Rattle.laws.specs.Lists.{over}
 use Rattle.laws.proofs.Lists.{over_push, over_push_two}
 use Rattle.point.specs.declared.PointF64.{PointF64}
@@ -41,7 +41,3 @@ flags_behind xs (y ∷ ys) k old e h =
     ap (put_flags (k + 1) ys) (over_push xs old k y e (omega arith))
     ∙ flags_behind (xs ++ (y ∷ [])) ys (k + 1) old e' (omega arith)
     ∙ ap (λ (l : List ℕ). over l old) (append_assoc xs (y ∷ []) ys)
-
--- a point's second value has its place, once the first is written
-pub second_place : (out : List Float) (k : ℕ) (x : Float) → k < length out / 2 → k * 2 + 1 < length (set out (k * 2) x)
-second_place out k x h = rw (length-set out (k * 2) x) (omega arith)

@@ -8,12 +8,12 @@ use native.Mathlib.Numerals.{add-one}
 use native.Mathlib.Omega.{arith}
 use lib.Ieee.{Float}
 use lib.ListN.{length, set, length-append}
+use Rattle.std.specs.Prelude.{Ok}
 use Rattle.laws.specs.Lists.{over}
 use Rattle.laws.proofs.Lists.{over_nil}
 use Rattle.point.specs.declared.PointF64.{PointF64}
 use Rattle.smooth.specs.declared.scheme.Settings.{Settings}
 use Rattle.smooth.specs.declared.subdivide.Step.{Step}
-use Rattle.smooth.specs.declared.Subdivided.TheVariants.{Done}
 use Rattle.point.specs.Points.{count, seen}
 use Rattle.smooth.specs.Places.{place_at, flat_f64}
 use Rattle.smooth.specs.Round.{Made, made_from, round_of, closing}
@@ -91,14 +91,14 @@ module _ (list : List Float) (corners : List ℕ) (settings : Settings) (closed 
           ap (made_from list corners settings closed m 0) e ∙ ap (λ (n : ℕ). made_from list corners settings closed n 0 n) is_seen
 
       written : (end : List PointF64) (n : ℕ) (out' : List Float) → n ≡ length (made.points ++ end) → out' ≡ over (flat_f64 (made.points ++ end)) out₀ →
-          record { answer = Done n finished; out = (out', flags) } ≡ rounded made end out₀ flags₀
+          record { answer = Ok (record { points = n; finished = finished }); out = (out', flags) } ≡ rounded made end out₀ flags₀
       written end n out' e f = rw (e, f, so.flagged, so.judged)
 
       ends_with : (end : List PointF64) → end ≡ closing list closed → rounded made end out₀ flags₀ ≡ rounded (round_of list corners settings closed) (closing list closed) out₀ flags₀
       ends_with end e = ap₂ (λ (l : Made) (end : List PointF64). rounded l end out₀ flags₀) whole e
 
       pub ended : closed ≡ false →
-          record { answer = Done k finished; out = (out, flags) } ≡ rounded (round_of list corners settings closed) (closing list closed) out₀ flags₀
+          record { answer = Ok (record { points = k; finished = finished }); out = (out, flags) } ≡ rounded (round_of list corners settings closed) (closing list closed) out₀ flags₀
       ended c =
           let p : made.points ≡ made.points ++ [] = sym (append-nil made.points) in
           let e : [] ≡ closing list closed = rw c in
@@ -111,12 +111,11 @@ module _ (list : List Float) (corners : List ℕ) (settings : Settings) (closed 
         pub last_fits : length out ≡ length out₀ → k < length out / 2
         last_fits e = omega (arith, enough, few)
 
-        pub closed_again : (out' : List Float) → out' ≡ set (set out (k * 2) (place_at list 0).x) (k * 2 + 1) (place_at list 0).y →
-            record { answer = Done (k + 1) finished; out = (out', flags) } ≡ rounded (round_of list corners settings closed) (closing list closed) out₀ flags₀
+        pub closed_again : (p : PointF64) → p ≡ place_at list 0 → (out' : List Float) → out' ≡ set (set out (k * 2) p.x) (k * 2 + 1) p.y →
+            record { answer = Ok (record { points = k + 1; finished = finished }); out = (out', flags) } ≡ rounded (round_of list corners settings closed) (closing list closed) out₀ flags₀
         unfolding put_points
-        closed_again out' f =
-            let p = place_at list 0 in
-            let end : p ∷ [] ≡ closing list closed = rw c in
+        closed_again p e out' f =
+            let end : p ∷ [] ≡ closing list closed = rw (c, e) in
             let n : k + 1 ≡ length (made.points ++ (p ∷ [])) = ap (λ (n : ℕ). n + 1) so.counted ∙ sym (length-append made.points (p ∷ [])) in
             let put : put_points k (p ∷ []) out ≡ over (flat_f64 (made.points ++ (p ∷ []))) out₀
             = ap (put_points k (p ∷ [])) so.points ∙ points_behind made.points (p ∷ []) k out₀ (sym so.counted) (omega (arith, enough, few)) in

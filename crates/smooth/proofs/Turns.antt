@@ -11,7 +11,7 @@ use Rattle.point.specs.declared.PointF64.{PointF64}
 use Rattle.smooth.specs.declared.scheme.Settings.{Settings}
 use Rattle.smooth.specs.Places.{place_at}
 use Rattle.smooth.specs.declared.scheme.Entering.{Entering}
-use Rattle.smooth.specs.declared.scheme.Entering.TheVariants.{Nothing, Point}
+use Rattle.std.specs.Prelude.{Option, Some, None}
 use Rattle.smooth.specs.Segments.{entering_behind}
 use Rattle.smooth.specs.Round.{Made, with_entered, made_from}
 use Rattle.smooth.specs.inside.Parts.{room_for, list_of, flags_of, settled_of, turn_points, turn_flags, turn_settled}
@@ -24,24 +24,24 @@ first_room false m i k places h l r = omega arith
 
 module _ (list : List Float) (corners : List ℕ) (settings : Settings) (m i k places : ℕ) (h : i < m) (l : k ≤ i * 2) where
   -- nothing enters behind the last point of an open list
-  none_behind : suc i ≡ m → entering_behind list corners settings false m i ≡ Nothing
+  none_behind : suc i ≡ m → entering_behind list corners settings false m i ≡ None
   unfolding entering_behind
   none_behind e = rw (eq-eqb (suc i) m e)
 
-  pub second_room : (closed : Bool) (p : PointF64) (s : Bool) → entering_behind list corners settings closed m i ≡ Point p s → room_for closed m ≤ places →
+  pub second_room : (closed : Bool) (new : Entering) → entering_behind list corners settings closed m i ≡ Some new → room_for closed m ≤ places →
       k + 1 < places
-  second_room true p s e r = omega arith
-  second_room false p s e r =
-      let n : suc i ≡ m → ⊥ = λ z. let o : Nothing ≡ Point p s = sym (none_behind z) ∙ e in let c : ◌≡◌ {A = ℕ} 0 1 = cc in omega arith in
+  second_room true new e r = omega arith
+  second_room false new e r =
+      let n : suc i ≡ m → ⊥ = λ z. let o : None ≡ Some new = sym (none_behind z) ∙ e in let c : ◌≡◌ {A = ℕ} 0 1 = cc in omega arith in
       omega arith
 
   pub turn_fits : (closed : Bool) → room_for closed m ≤ places → k + length (turn_points list corners settings closed m i) ≤ places
   unfolding turn_points
   turn_fits closed r = go (entering_behind list corners settings closed m i) refl
     where
-      go : (o : Entering) → entering_behind list corners settings closed m i ≡ o → k + length (place_at list i ∷ list_of o) ≤ places
-      go Nothing e = omega (arith, first_room closed m i k places h l r)
-      go (Point p s) e = omega (arith, second_room closed p s e r)
+      go : (o : Option Entering) → entering_behind list corners settings closed m i ≡ o → k + length (place_at list i ∷ list_of o) ≤ places
+      go None e = omega (arith, first_room closed m i k places h l r)
+      go (Some new) e = omega (arith, second_room closed new e r)
 
 -- ---- a list, or a test, that is made from the front is also made from the back
 
@@ -73,19 +73,19 @@ module _ (list : List Float) (corners : List ℕ) (settings : Settings) (closed 
   abbrev made : ℕ → ℕ → Made
   made i n = made_from list corners settings closed m i n
 
-  entered_points : (o : Entering) (rest : Made) → (with_entered o rest).points ≡ list_of o ++ rest.points
-  entered_points Nothing rest = refl
-  entered_points (Point p s) rest = refl
+  entered_points : (o : Option Entering) (rest : Made) → (with_entered o rest).points ≡ list_of o ++ rest.points
+  entered_points None rest = refl
+  entered_points (Some new) rest = refl
 
-  entered_flags : (o : Entering) (rest : Made) → (with_entered o rest).flags ≡ flags_of o ++ rest.flags
-  entered_flags Nothing rest = refl
-  entered_flags (Point p s) rest = refl
+  entered_flags : (o : Option Entering) (rest : Made) → (with_entered o rest).flags ≡ flags_of o ++ rest.flags
+  entered_flags None rest = refl
+  entered_flags (Some new) rest = refl
 
-  entered_finished : (o : Entering) (rest : Made) → (with_entered o rest).finished ≡ (settled_of o && rest.finished)
-  entered_finished Nothing rest = refl
-  entered_finished (Point p s) rest = refl
+  entered_finished : (o : Option Entering) (rest : Made) → (with_entered o rest).finished ≡ (settled_of o && rest.finished)
+  entered_finished None rest = refl
+  entered_finished (Some new) rest = refl
 
-  abbrev behind : ℕ → Entering
+  abbrev behind : ℕ → Option Entering
   behind i = entering_behind list corners settings closed m i
 
   front_points : (i n : ℕ) → (made i (suc n)).points ≡ turn_points list corners settings closed m i ++ (made (suc i) n).points
@@ -135,17 +135,17 @@ module _ (list : List Float) (corners : List ℕ) (settings : Settings) (closed 
   unfolding turn_points
   two_at_most i = go (behind i)
     where
-      go : (o : Entering) → length (place_at list i ∷ list_of o) ≤ 2
-      go Nothing = omega arith
-      go (Point p s) = omega arith
+      go : (o : Option Entering) → length (place_at list i ∷ list_of o) ≤ 2
+      go None = omega arith
+      go (Some new) = omega arith
 
   pub flag_each : (i : ℕ) → length (turn_flags list corners settings closed m i) ≡ length (turn_points list corners settings closed m i)
   unfolding turn_points turn_flags
   flag_each i = go (behind i)
     where
-      go : (o : Entering) → length (get_or corners i 0 ∷ flags_of o) ≡ length (place_at list i ∷ list_of o)
-      go Nothing = refl
-      go (Point p s) = refl
+      go : (o : Option Entering) → length (get_or corners i 0 ∷ flags_of o) ≡ length (place_at list i ∷ list_of o)
+      go None = refl
+      go (Some new) = refl
 
   pub twice_at_most : (i n : ℕ) → length (made i n).points ≤ n * 2
   twice_at_most i zero = rw (no_points i) (omega arith)

@@ -8,22 +8,23 @@ use lib.ListN.{length}
 use Rattle.point.specs.declared.refusal.Refusal.{Refusal}
 use Rattle.smooth.specs.declared.scheme.Settings.{Settings}
 use Rattle.point.specs.Outcomes.{verdict}
-use Rattle.point.specs.declared.refusal.Verdict.{Verdict}
-use Rattle.point.specs.declared.refusal.Verdict.TheVariants.{Fine, Refused as Refused'}
+use Rattle.std.specs.Prelude.{Result, Ok, Err}
+use Rattle.std.specs.Result.{IsErrAnd}
 use Rattle.point.proofs.Verdicts.{refused_is, fine_is}
 use Rattle.smooth.specs.declared.Subdivided.{Subdivided}
-use Rattle.smooth.specs.declared.Subdivided.TheVariants.{Refused}
 use Rattle.smooth.specs.Round.{round_of, closing}
 use Rattle.smooth.specs.Calls.{round_refusal, rounded, subdivided_of}
 
-module _ (list : List Float) (corners : List ℕ) (settings : Settings) (closed : Bool) (out : List Float) (flags : List ℕ) (v : Verdict)
+module _ (list : List Float) (corners : List ℕ) (settings : Settings) (closed : Bool) (out : List Float) (flags : List ℕ) (v : Result Unit Refusal)
     (says : v ≡ verdict (round_refusal list corners settings closed (length out) (length flags))) where
-  pub refused_outcome : (r : Refusal) → v ≡ Refused' r →
-      record { answer = Refused r; out = (out, flags) } ≡ subdivided_of list corners settings closed out flags
+  -- `a` is what a `?` hands on
+  pub refused_outcome : (r : Refusal) → v ≡ Err r → (a : Result Subdivided Refusal) → IsErrAnd a (λ e. e ≡ r) →
+      record { answer = a; out = (out, flags) } ≡ subdivided_of list corners settings closed out flags
   unfolding subdivided_of
-  refused_outcome r e = rw (refused_is v (round_refusal list corners settings closed (length out) (length flags)) r says e)
+  refused_outcome r e (Ok x) h = absurd h
+  refused_outcome r e (Err q) h = rw (h, refused_is v (round_refusal list corners settings closed (length out) (length flags)) r says e)
 
-  pub done_outcome : v ≡ Fine → (r : Subdivided) (out' : List Float) (flags' : List ℕ) →
+  pub done_outcome : v ≡ Ok tt → (r : Result Subdivided Refusal) (out' : List Float) (flags' : List ℕ) →
       record { answer = r; out = (out', flags') } ≡ rounded (round_of list corners settings closed) (closing list closed) out flags →
       record { answer = r; out = (out', flags') } ≡ subdivided_of list corners settings closed out flags
   unfolding subdivided_of

@@ -1,19 +1,14 @@
--- Document 01's number and values of each answer: "For an answer that is an enum, a definition gives this paper's number and values for
--- each of its cases."
-use Rattle.std.specs.Prelude.{ℕ, Bool, false}
-use Rattle.point.specs.Refusals.{refusal_number}
+-- Document 01's values of an answer: "For an answer that is an enum, a definition gives this paper's number and values for each of its cases." Its
+-- number is that of every answer (specs/Refusals of `point`).
+use Rattle.std.specs.Prelude.{ℕ, Bool, false, Result, Ok, Err}
+use Rattle.point.specs.declared.refusal.Refusal.{Refusal}
 use Rattle.smooth.specs.declared.Subdivided.{Subdivided}
-use Rattle.smooth.specs.declared.Subdivided.TheVariants.{Done, Refused}
 
--- document 01's number of each case, and its values: the count, and whether the round is finished. "A refusal has count 0", and is not finished
-abbrev pub subdivided_number : Subdivided → ℕ
-subdivided_number (Done n finished) = 0
-subdivided_number (Refused r) = refusal_number r
+-- the count, and whether the round is finished: "a refusal has count 0", and is not finished
+abbrev pub subdivided_count : Result Subdivided Refusal → ℕ
+subdivided_count (Ok round) = round.points
+subdivided_count (Err r) = 0
 
-abbrev pub subdivided_count : Subdivided → ℕ
-subdivided_count (Done n finished) = n
-subdivided_count (Refused r) = 0
-
-abbrev pub subdivided_finished : Subdivided → Bool
-subdivided_finished (Done n finished) = finished
-subdivided_finished (Refused r) = false
+abbrev pub subdivided_finished : Result Subdivided Refusal → Bool
+subdivided_finished (Ok round) = round.finished
+subdivided_finished (Err r) = false

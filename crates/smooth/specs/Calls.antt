@@ -1,11 +1,11 @@
 -- What `subdivide_keep_corners` refuses and answers, and what the two buffers lent to it then hold.
-use Rattle.std.specs.Prelude.{ℕ, ◌-◌, ◌*◌, Bool, not, ◌&&◌, ◌||◌, List, ◌++◌, ltb, leb, eqb, pos, Float, length}
+use Rattle.std.specs.Prelude.{ℕ, ◌-◌, ◌*◌, Bool, not, ◌&&◌, ◌||◌, List, ◌++◌, ltb, pos, Float, length, Result, Ok}
 use Rattle.std.proofs.Math.Option.{Option, none}
 use Rattle.std.specs.Float.{binary64}
 use Rattle.std.specs.Float.Ieee.{of_int}
 use Rattle.laws.specs.Lists.{over}
 use Rattle.laws.specs.Outcome.{Outcome}
-use Rattle.point.specs.Limits.{too_many, bad_points_f64, within, every}
+use Rattle.point.specs.Limits.{too_many, bad_points_f64, bad_flags, within}
 use Rattle.point.specs.Outcomes.{outcome}
 use Rattle.point.specs.Points.{count, seen}
 use Rattle.point.specs.Refusals.{refuse◌when◌or◌}
@@ -16,16 +16,8 @@ use Rattle.smooth.specs.Places.{flat_f64}
 use Rattle.smooth.specs.Round.{Made, round_of, closing}
 use Rattle.smooth.specs.declared.scheme.Settings.{Settings}
 use Rattle.smooth.specs.declared.Subdivided.{Subdivided}
-use Rattle.smooth.specs.declared.Subdivided.TheVariants.{Done, Refused}
 
 -- ---- what it refuses
-
-abbrev pub is_flag : ℕ → Bool
-is_flag v = leb v 1
-
--- "flag count not n (open) or n-1 (closed), or a flag not 0 or 1", where m flags are asked for
-abbrev pub bad_flags : ℕ → List ℕ → Bool
-bad_flags m corners = not (eqb (length corners) m) || not (every is_flag corners)
 
 -- "Outset ratio 1 to 1,000; segment length 0 to 65,536"; "out of range or NaN"
 abbrev pub bad_settings : Settings → Bool
@@ -55,14 +47,14 @@ round_refusal list corners settings closed room flagRoom =
 -- ---- what it does
 
 -- the points, the closing one behind them, and the flags, each over the start of its buffer
-abbrev pub rounded : Made → List PointF64 → List Float → List ℕ → Outcome Subdivided (List Float × List ℕ)
+abbrev pub rounded : Made → List PointF64 → List Float → List ℕ → Outcome (Result Subdivided Refusal) (List Float × List ℕ)
 rounded made end out flags = record {
-  answer = Done (length (made.points ++ end)) made.finished;
+  answer = Ok (record { points = length (made.points ++ end); finished = made.finished });
   out = (over (flat_f64 (made.points ++ end)) out, over made.flags flags);
 }
 
-unfoldable pub subdivided_of : List Float → List ℕ → Settings → Bool → List Float → List ℕ → Outcome Subdivided (List Float × List ℕ)
+unfoldable pub subdivided_of : List Float → List ℕ → Settings → Bool → List Float → List ℕ → Outcome (Result Subdivided Refusal) (List Float × List ℕ)
 unfolding outcome round_of flat_f64 over
 subdivided_of list corners settings closed out flags =
-    outcome Refused (round_refusal list corners settings closed (length out) (length flags)) (out, flags)
+    outcome (round_refusal list corners settings closed (length out) (length flags)) (out, flags)
     (rounded (round_of list corners settings closed) (closing list closed) out flags)

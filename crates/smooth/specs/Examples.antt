@@ -1,11 +1,10 @@
 -- Document 01: "Square (0,0) (4,0) (4,4) (0,4) (0,0), ratio 8, length 1, no corners: (2,-0.5) enters after (0,0); with (0,0) a corner, (2,-0.25);
 -- all corners: nothing enters, finished."
-use Rattle.std.specs.Prelude.{true, false, List, [], ◌∷◌, ◌≡◌, refl, ℤ, pos, Float}
+use Rattle.std.specs.Prelude.{true, false, List, [], ◌∷◌, ◌≡◌, refl, ℤ, pos, Float, Some}
 use Rattle.std.specs.Float.{binary64}
 use Rattle.std.specs.Float.Ieee.{of_int, of_bits, add, sub, mul, div, lt, le}
 use Rattle.sqrt.specs.Root.{root_of}
 use Rattle.smooth.specs.declared.scheme.Settings.{Settings}
-use Rattle.smooth.specs.declared.scheme.Entering.TheVariants.{Point}
 use Rattle.smooth.specs.Segments.{entering_behind}
 use Rattle.smooth.specs.Round.{round_of}
 
@@ -19,12 +18,12 @@ abbrev settings : Settings
 settings = record { ratio = whole (pos 8); length = whole (pos 1) }
 
 -- (2, -0.5), and both new parts are longer than 1
-no_corners : entering_behind square (0 ∷ 0 ∷ 0 ∷ 0 ∷ []) settings true 4 0 ≡ Point (record { x = whole (pos 2); y = of_bits binary64 0xbfe0000000000000 }) false
+no_corners : entering_behind square (0 ∷ 0 ∷ 0 ∷ 0 ∷ []) settings true 4 0 ≡ Some (record { point = record { x = whole (pos 2); y = of_bits binary64 0xbfe0000000000000 }; settled = false })
 unfolding entering_behind of_int of_bits add sub mul div lt le root_of
 no_corners = refl
 
 -- (2, -0.25)
-first_a_corner : entering_behind square (1 ∷ 0 ∷ 0 ∷ 0 ∷ []) settings true 4 0 ≡ Point (record { x = whole (pos 2); y = of_bits binary64 0xbfd0000000000000 }) false
+first_a_corner : entering_behind square (1 ∷ 0 ∷ 0 ∷ 0 ∷ []) settings true 4 0 ≡ Some (record { point = record { x = whole (pos 2); y = of_bits binary64 0xbfd0000000000000 }; settled = false })
 unfolding entering_behind of_int of_bits add sub mul div lt le root_of
 first_a_corner = refl
 

@@ -1,12 +1,11 @@
 -- One round of subdivision as the Rust makes it (smooth.rs, subdivide_keep_corners): each point, and what enters behind it.
-use Rattle.std.specs.Prelude.{ℕ, zero, suc, Bool, true, ◌&&◌, List, [], ◌∷◌, Float, get_or, if◌then◌else◌}
+use Rattle.std.specs.Prelude.{ℕ, zero, suc, Bool, true, ◌&&◌, List, [], ◌∷◌, Float, get_or, if◌then◌else◌, Option, Some, None}
 use Rattle.point.specs.Points.{count, seen}
 use Rattle.point.specs.declared.PointF64.{PointF64}
 use Rattle.smooth.specs.Places.{place_at}
 use Rattle.smooth.specs.Segments.{entering_behind}
 use Rattle.smooth.specs.declared.scheme.Settings.{Settings}
 use Rattle.smooth.specs.declared.scheme.Entering.{Entering}
-use Rattle.smooth.specs.declared.scheme.Entering.TheVariants.{Nothing, Point}
 
 -- what a round makes: points, a flag for each, and whether it is finished
 pub record Made : Type 0 where
@@ -15,9 +14,9 @@ pub record Made : Type 0 where
   pub finished : Bool
 
 -- a point that enters, if one does, before the rest: it is no corner, and where it leaves its segment unsettled the round is not finished
-abbrev pub with_entered : Entering → Made → Made
-with_entered Nothing rest = rest
-with_entered (Point p settled) rest = record { points = p ∷ rest.points; flags = 0 ∷ rest.flags; finished = settled && rest.finished }
+abbrev pub with_entered : Option Entering → Made → Made
+with_entered None rest = rest
+with_entered (Some new) rest = record { points = new.point ∷ rest.points; flags = 0 ∷ rest.flags; finished = new.settled && rest.finished }
 
 -- a point and its flag before the rest
 abbrev pub with_point : PointF64 → ℕ → Made → Made

@@ -7,7 +7,6 @@ use Rattle.point.specs.declared.PointF64.{PointF64}
 use Rattle.util.specs.Lengths.{middle, length_of}
 use Rattle.smooth.specs.declared.scheme.Settings.{Settings}
 use Rattle.smooth.specs.declared.scheme.Entering.{Entering}
-use Rattle.smooth.specs.declared.scheme.Entering.TheVariants.{Point}
 
 -- how far p lies from q: the norm of p - q
 unfoldable pub distance : PointF64 → PointF64 → Float
@@ -59,4 +58,4 @@ unfoldable pub placed : Settings → PointF64 → PointF64 → PointF64 → Poin
 unfolding new_point settled
 placed settings p q before behind =
     let new = new_point p q before behind settings.ratio in
-    Point new (settled p q new settings.length)
+    record { point = new; settled = settled p q new settings.length }

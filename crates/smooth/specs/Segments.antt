@@ -1,10 +1,9 @@
 -- What enters behind a point of a list: the segments of the list, and the points around each that count.
-use Rattle.std.specs.Prelude.{ℕ, suc, ◌-◌, Bool, not, ◌&&◌, ◌||◌, List, eqb, Float, get_or, if◌then◌else◌}
+use Rattle.std.specs.Prelude.{ℕ, suc, ◌-◌, Bool, not, ◌&&◌, ◌||◌, List, eqb, Float, get_or, if◌then◌else◌, Option, Some, None}
 use Rattle.smooth.specs.Places.{place_at}
 use Rattle.smooth.specs.Scheme.{skipped, placed}
 use Rattle.smooth.specs.declared.scheme.Settings.{Settings}
 use Rattle.smooth.specs.declared.scheme.Entering.{Entering}
-use Rattle.smooth.specs.declared.scheme.Entering.TheVariants.{Nothing}
 
 -- ---- one segment, from the point at i to the one at j. A list has m points; a closed one wraps
 
@@ -35,16 +34,16 @@ abbrev pub pinned : List ℕ → Bool → ℕ → ℕ → ℕ → Bool
 pinned corners closed m i j = eqb (prev_kept corners closed m i) i && eqb (next_kept corners closed m j) j
 
 -- what enters a segment: nothing where it is left as it is, or where both its ends are pinned
-unfoldable pub entering : List Float → List ℕ → Settings → Bool → ℕ → ℕ → ℕ → Entering
+unfoldable pub entering : List Float → List ℕ → Settings → Bool → ℕ → ℕ → ℕ → Option Entering
 unfolding skipped placed
 entering list corners settings closed m i j =
     if skipped (place_at list i) (place_at list j) (place_at list (prev_of closed m i)) (place_at list (next_of closed m j)) settings.length ||
     pinned corners closed m i j
-    then Nothing
-    else placed settings (place_at list i) (place_at list j) (place_at list (prev_kept corners closed m i)) (place_at list (next_kept corners closed m j))
+    then None
+    else Some (placed settings (place_at list i) (place_at list j) (place_at list (prev_kept corners closed m i)) (place_at list (next_kept corners closed m j)))
 
 -- what enters behind the point at i. No segment leaves the last point of an open list
-unfoldable pub entering_behind : List Float → List ℕ → Settings → Bool → ℕ → ℕ → Entering
+unfoldable pub entering_behind : List Float → List ℕ → Settings → Bool → ℕ → ℕ → Option Entering
 unfolding entering
 entering_behind list corners settings closed m i =
-    if not closed && eqb (suc i) m then Nothing else entering list corners settings closed m i (after closed m i)
+    if not closed && eqb (suc i) m then None else entering list corners settings closed m i (after closed m i)

@@ -21,12 +21,11 @@ pub struct Settings {
     pub length: f64,
 }
 
-// What enters a segment: nothing, or a point, and with it whether both new parts are short, at most the
-// segment length.
+// The point that enters a segment, and whether both new parts are short, at most the segment length.
 #[derive(Clone, Copy)]
-pub enum Entering {
-    Nothing,
-    Point(PointF64, bool),
+pub struct Entering {
+    pub point: PointF64,
+    pub settled: bool,
 }
 
 // The Rust's f64::EPSILON: the least double above 1, less 1.
@@ -34,6 +33,7 @@ const EPSILON: f64 = 0.0000000000000002220446049250313;
 
 // The point that enters between `p` and `q`, where the points around them that count are `before` and
 // `behind`; and whether both new parts are short.
+#[tactic(auto, unfolding(crate::specs::Scheme::placed))]
 pub(crate) fn placed(
     settings: Settings,
     p: PointF64,
@@ -43,12 +43,16 @@ pub(crate) fn placed(
 ) -> Entering
     ensures { result ≡ placed settings p q before behind }
 {
-    let new = new_point(p, q, before, behind, settings.ratio);
-    Entering::Point(new, settled(p, q, new, settings.length))
+    let point = new_point(p, q, before, behind, settings.ratio);
+    Entering {
+        point,
+        settled: settled(p, q, point, settings.length),
+    }
 }
 
 // Whether the segment from `p` to `q` is left as it is: it is short, or the one before it, from `prev`, or
 // the one behind it, to `next`, is at least twice as long.
+#[tactic(auto, unfolding(crate::specs::Scheme::skipped))]
 pub(crate) fn skipped(
     p: PointF64,
     q: PointF64,
@@ -59,13 +63,7 @@ pub(crate) fn skipped(
     ensures { result ≡ skipped p q prev next segment_length }
 {
     let curr = distance(p, q);
-    if curr <= segment_length {
-        return true;
-    }
-    if is_twice(distance(prev, p), curr) {
-        return true;
-    }
-    is_twice(distance(next, q), curr)
+    curr <= segment_length || is_twice(distance(prev, p), curr) || is_twice(distance(next, q), curr)
 }
 
 // Whether a length is at least twice the current segment's.
@@ -76,16 +74,15 @@ fn is_twice(length: f64, curr: f64) -> bool
 }
 
 // Whether both parts of a segment are short: neither is longer than the segment length.
+#[tactic(auto, unfolding(crate::specs::Scheme::settled))]
 fn settled(p: PointF64, q: PointF64, new: PointF64, segment_length: f64) -> bool
     ensures { result ≡ settled p q new segment_length }
 {
-    if segment_length < distance(p, new) {
-        return false;
-    }
-    !(segment_length < distance(q, new))
+    !(segment_length < distance(p, new) || segment_length < distance(q, new))
 }
 
 // How far two points lie apart.
+#[tactic(auto, unfolding(crate::specs::Scheme::distance))]
 fn distance(p: PointF64, q: PointF64) -> f64
     ensures { result ≡ distance p q }
 {
@@ -94,6 +91,7 @@ fn distance(p: PointF64, q: PointF64) -> f64
 
 // Where the new point lies: from the middle of `p` and `q` away from the middle of `before` and `behind`,
 // by the distance between the two over `ratio`. Where that is next to nothing, it is the first middle.
+#[tactic(auto, unfolding(crate::specs::Scheme::new_point))]
 fn new_point(p: PointF64, q: PointF64, before: PointF64, behind: PointF64, ratio: f64) -> PointF64
     ensures { result ≡ new_point p q before behind ratio }
 {

@@ -1,7 +1,7 @@
 -- What a crossing says of its two lines. "The three look at the ratios alone and refuse nothing."
-use Rattle.std.specs.Prelude.{Bool, true, false, not, ◌&&◌, ◌||◌, pos, Float}
+use Rattle.std.specs.Prelude.{Bool, true, false, not, ◌&&◌, ◌||◌, pos, Float, is_nan}
 use Rattle.std.specs.Float.{binary64}
-use Rattle.std.specs.Float.Ieee.{of_int, of_bits, add, sub, lt, ne}
+use Rattle.std.specs.Float.Ieee.{of_int, of_bits, add, sub, lt}
 use Rattle.util.specs.declared.ratios.Intersection.{Intersection}
 use Rattle.util.specs.declared.ratios.Intersection.TheVariants.{Parallel, Coincide, Cross, Refused}
 
@@ -12,9 +12,6 @@ margin = of_bits binary64 0x3f50624dd2f1a9fc
 -- a ratio that lies off its line; a NaN is neither below nor above
 unfoldable pub off : Float → Bool
 off mu = lt mu (sub binary64 (of_int binary64 (pos 0)) margin) || lt (add binary64 (of_int binary64 (pos 1)) margin) mu
-
-abbrev pub is_nan : Float → Bool
-is_nan mu = ne mu mu
 
 -- "Coincide counts as inside. In Cross a NaN ratio alone never makes it outside". "Asked of Parallel, all three say no"
 unfoldable pub outside_of : Intersection → Bool

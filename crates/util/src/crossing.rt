@@ -1,10 +1,10 @@
 // Where two lines cross, operation by operation as the Rust computes it.
-ghost use Rattle.std.specs.Prelude.{◌&&◌, ◌≡◌};
+ghost use Rattle.std.specs.Prelude.{◌≡◌};
 ghost use Rattle.util.specs.Crossing.{negligible, across, along, judged, crossing, intersection_of};
 
 use crate::lengths::middle;
 use crate::ratios::Intersection;
-use point::{PointF64, Refusal, point_in_range_f64};
+use point::{PointF64, Ranged, Refusal};
 
 // What lies between this and its negative counts as 0.
 const EPSILON: f64 = 0.0000001;
@@ -13,22 +13,14 @@ const EPSILON: f64 = 0.0000001;
 pub fn find_intersection(p1: PointF64, p2: PointF64, p3: PointF64, p4: PointF64) -> Intersection
     ensures { result ≡ intersection_of p1 p2 p3 p4 }
 {
-    if !point_in_range_f64(p1) {
-        return Intersection::Refused(Refusal::BadPoint);
-    }
-    if !point_in_range_f64(p2) {
-        return Intersection::Refused(Refusal::BadPoint);
-    }
-    if !point_in_range_f64(p3) {
-        return Intersection::Refused(Refusal::BadPoint);
-    }
-    if !point_in_range_f64(p4) {
+    if !p1.in_range() || !p2.in_range() || !p3.in_range() || !p4.in_range() {
         return Intersection::Refused(Refusal::BadPoint);
     }
     crossing(p1, p2, p3, p4)
 }
 
 // Where the two lines cross, for any four points.
+#[tactic(auto, unfolding(crate::specs::Crossing::crossing))]
 fn crossing(p1: PointF64, p2: PointF64, p3: PointF64, p4: PointF64) -> Intersection
     ensures { result ≡ crossing p1 p2 p3 p4 }
 {
@@ -44,7 +36,7 @@ fn judged(p1: PointF64, p2: PointF64, denom: f64, numera: f64, numerb: f64) -> I
     ensures { result ≡ judged p1 p2 denom numera numerb }
 {
     if negligible(denom) {
-        if both_negligible(numera, numerb) {
+        if negligible(numera) && negligible(numerb) {
             return Intersection::Coincide(middle(p1, p2));
         }
         return Intersection::Parallel;
@@ -71,13 +63,8 @@ fn across(a: f64, b: f64, c: f64, d: f64) -> f64
     a * b - c * d
 }
 
-fn both_negligible(a: f64, b: f64) -> bool
-    ensures { result ≡ (negligible a && negligible b) }
-{
-    negligible(a) && negligible(b)
-}
-
 // Whether a number counts as 0.
+#[tactic(auto, unfolding(crate::specs::Crossing::negligible))]
 fn negligible(v: f64) -> bool
     ensures { result ≡ negligible v }
 {

@@ -5,7 +5,8 @@ ghost use Rattle.util.specs.Ratios.{off, outside_of, inside_of, coincide_of};
 
 use point::{PointF64, Refusal};
 
-// Where two lines cross.
+// Where two lines cross, or why that is not told. A refusal is a case of its own, and the methods below answer for
+// it too, so this is no Result.
 #[derive(Clone, Copy)]
 pub enum Intersection {
     Parallel,
@@ -25,46 +26,43 @@ impl Intersection {
         ensures { result ≡ intersection_number self }
     {
         match self {
-            Intersection::Parallel => 0,
-            Intersection::Coincide(_) => 0,
-            Intersection::Cross(_, _, _) => 0,
             Intersection::Refused(refusal) => refusal.number(),
+            Intersection::Parallel | Intersection::Coincide(_) | Intersection::Cross(_, _, _) => 0,
         }
     }
 
     // Whether the crossing lies off either line: not between its two points.
+    #[tactic(auto, unfolding(crate::specs::Ratios::outside_of))]
     pub fn outside(self) -> bool
         ensures { result ≡ outside_of self }
     {
         match self {
-            Intersection::Parallel => false, // they meet nowhere
-            Intersection::Coincide(_) => false,
             Intersection::Cross(_, mua, mub) => either_off(mua, mub),
-            Intersection::Refused(_) => false,
+            Intersection::Parallel | Intersection::Coincide(_) | Intersection::Refused(_) => false,
         }
     }
 
     // Whether the crossing lies on both lines: between the two points of each.
+    #[tactic(auto, unfolding(crate::specs::Ratios::inside_of))]
     pub fn inside(self) -> bool
         ensures { result ≡ inside_of self }
     {
         match self {
-            Intersection::Parallel => false,
             Intersection::Coincide(_) => true,
             Intersection::Cross(_, mua, mub) => !either_off(mua, mub),
-            Intersection::Refused(_) => false,
+            Intersection::Parallel | Intersection::Refused(_) => false,
         }
     }
 
     // Whether the lines are one.
+    #[tactic(auto, unfolding(crate::specs::Ratios::coincide_of))]
     pub fn coincide(self) -> bool
         ensures { result ≡ coincide_of self }
     {
         match self {
-            Intersection::Parallel => false,
             Intersection::Coincide(_) => true,
-            Intersection::Cross(_, mua, mub) => mua != mua && mub != mub,
-            Intersection::Refused(_) => false,
+            Intersection::Cross(_, mua, mub) => mua.is_nan() && mub.is_nan(),
+            Intersection::Parallel | Intersection::Refused(_) => false,
         }
     }
 }

@@ -1,55 +1,32 @@
 -- The parts of a round as the code has them.
-use Rattle.std.specs.Prelude.{ℕ, ◌+◌, ◌-◌, ◌*◌, Bool, true, false, ◌&&◌, List, [], ◌∷◌, ◌≡◌, eqb, Float, length, set, get_or, if◌then◌else◌}
-use Rattle.std.proofs.Math.Option.{Option, none}
-use Rattle.point.specs.Refusals.{refuse◌when◌or◌}
+use Rattle.std.specs.Prelude.{ℕ, ◌+◌, ◌-◌, ◌*◌, Bool, true, false, List, [], ◌∷◌, ◌≡◌, Float, length, set, get_or, Option, Some, None}
 use Rattle.point.specs.declared.PointF64.{PointF64}
-use Rattle.point.specs.declared.refusal.Refusal.{Refusal}
-use Rattle.point.specs.declared.refusal.Refusal.TheVariants.{BadFlags, BadSettings, NoRoom}
 use Rattle.smooth.specs.Places.{place_at}
-use Rattle.smooth.specs.Scheme.{placed}
 use Rattle.smooth.specs.Segments.{entering_behind}
-use Rattle.smooth.specs.Calls.{bad_flags, bad_settings, too_short}
 use Rattle.smooth.specs.declared.scheme.Settings.{Settings}
 use Rattle.smooth.specs.declared.scheme.Entering.{Entering}
-use Rattle.smooth.specs.declared.scheme.Entering.TheVariants.{Nothing, Point}
 use Rattle.smooth.specs.declared.subdivide.Step.{Step}
 
 -- ---- before the round
-
--- the refusals that are judged once the points are, of n points of which m have a flag
-abbrev pub rest_refusal : List ℕ → Settings → ℕ → ℕ → ℕ → ℕ → Option Refusal
-rest_refusal corners settings n m room flagRoom =
-    refuse BadFlags when bad_flags m corners or
-    refuse BadSettings when bad_settings settings or
-    refuse NoRoom when too_short n room flagRoom or
-    none
 
 -- how many points a round of m can make at most. Nothing enters behind the last point of an open list, and a closed one is closed again
 abbrev pub room_for : Bool → ℕ → ℕ
 room_for true m = m * 2 + 1
 room_for false m = m * 2 - 1
 
--- ---- one segment
-
--- what enters a segment that is not left as it is, where the neighbours that count are at `before` and `behind`
-unfoldable pub entering_between : List Float → Settings → ℕ → ℕ → ℕ → ℕ → Entering
-unfolding placed
-entering_between list settings i j before behind =
-    if eqb before i && eqb behind j then Nothing else placed settings (place_at list i) (place_at list j) (place_at list before) (place_at list behind)
-
 -- ---- what a turn of the round puts down: the point at i and what enters behind it, a flag for each, and whether that is settled
 
-abbrev pub list_of : Entering → List PointF64
-list_of Nothing = []
-list_of (Point p settled) = p ∷ []
+abbrev pub list_of : Option Entering → List PointF64
+list_of None = []
+list_of (Some new) = new.point ∷ []
 
-abbrev pub flags_of : Entering → List ℕ
-flags_of Nothing = []
-flags_of (Point p settled) = 0 ∷ []
+abbrev pub flags_of : Option Entering → List ℕ
+flags_of None = []
+flags_of (Some new) = 0 ∷ []
 
-abbrev pub settled_of : Entering → Bool
-settled_of Nothing = true
-settled_of (Point p settled) = settled
+abbrev pub settled_of : Option Entering → Bool
+settled_of None = true
+settled_of (Some new) = new.settled
 
 unfoldable pub turn_points : List Float → List ℕ → Settings → Bool → ℕ → ℕ → List PointF64
 turn_points list corners settings closed m i = place_at list i ∷ list_of (entering_behind list corners settings closed m i)
