@@ -1,13 +1,13 @@
--- An edge more, added to a sum that is small enough: it fits, by its bits too. Assumes nothing.
+-- An edge more, added to a sum that is small enough, or taken off: by its bits it is the sum, or the difference. Assumes nothing.
 use Prim.Native.Nat.{ℕ, ◌≤◌}
 use mathlib.Core.Path.{◌≡◌}
 use native.Mathlib.Nat.{le_trans}
 use native.Mathlib.Omega.{arith}
 use lib.Dec.{T, leb, leb→le}
 use mir.Syntax.{w64}
-use mir.Val.{SFits, of_z, to_z}
+use mir.Val.{of_z, to_z}
 use lib.IntN.{ℤ, nat_abs, ◌+ℤ◌, ◌-ℤ◌}
-use Rattle.laws.proofs.Integers.{abs_add_le, abs_sub_le, sfits_abs}
+use Rattle.laws.proofs.Integers.{abs_add_le, abs_sub_le}
 use Rattle.util.proofs.ByBits.{wide_by_bits}
 use Rattle.point.specs.declared.PointI32.{PointI32}
 use Rattle.areas.specs.Areas.{edge}
@@ -17,12 +17,6 @@ use Rattle.areas.specs.inside.Added.{Small, Smallish, edge_added, chord_added, c
 module _ (a b : ℤ) {m : ℕ} (h : nat_abs a ≤ m) (few : T (leb m 9000536805378)) (k : nat_abs b ≤ 536805378) where
   most : nat_abs a ≤ 9000536805378
   most = le_trans h (leb→le m 9000536805378 few)
-
-  pub sum_fits : SFits w64 (to_z w64 (of_z w64 a) +ℤ to_z w64 (of_z w64 b))
-  sum_fits = rw (wide_by_bits a (omega (arith, most)), wide_by_bits b (omega arith)) (sfits_abs (omega (arith, abs_add_le a b most k)))
-
-  pub difference_fits : SFits w64 (to_z w64 (of_z w64 a) -ℤ to_z w64 (of_z w64 b))
-  difference_fits = rw (wide_by_bits a (omega (arith, most)), wide_by_bits b (omega arith)) (sfits_abs (omega (arith, abs_sub_le a b most k)))
 
   pub sum_is : to_z w64 (of_z w64 (to_z w64 (of_z w64 a) +ℤ to_z w64 (of_z w64 b))) ≡ a +ℤ b
   sum_is = rw (wide_by_bits a (omega (arith, most)), wide_by_bits b (omega arith)) (wide_by_bits (a +ℤ b) (omega (arith, abs_add_le a b most k)))

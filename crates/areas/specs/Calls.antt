@@ -1,5 +1,5 @@
 -- What the calls refuse and answer.
-use Rattle.std.specs.Prelude.{ℕ, not, ◌||◌, List, ltb, eqb, Float, ℤ, length}
+use Rattle.std.specs.Prelude.{ℕ, not, ◌||◌, List, ltb, eqb, Float, ℤ, length, Result, Ok, Err}
 use Rattle.std.proofs.Math.Option.{Option, some, none}
 use Rattle.laws.specs.Lists.{over}
 use Rattle.laws.specs.Outcome.{Outcome}
@@ -11,9 +11,7 @@ use Rattle.point.specs.declared.refusal.Refusal.{Refusal}
 use Rattle.point.specs.declared.refusal.Refusal.TheVariants.{TooMany, BadPoint, TooFew, BadTolerance, BadFlags, NoRoom}
 use Rattle.split.specs.Tree.{marks_of}
 use Rattle.areas.specs.Areas.{twice_area, three_areas, ends_kept}
-use Rattle.areas.specs.declared.Area.{Area}
-use Rattle.areas.specs.declared.Measured.{Measured}
-use Rattle.areas.specs.declared.Measured.TheVariants.{Are, Refused}
+use Rattle.areas.specs.declared.Areas.{Areas}
 
 -- ---- the area of a list
 
@@ -24,11 +22,11 @@ twice_area_refusal list =
     none
 
 -- or why there is none
-abbrev pub area_unless : Option Refusal → ℤ → Area
-area_unless (some r) twice = Area.Refused r
-area_unless none twice = Area.Twice twice
+abbrev pub area_unless : Option Refusal → ℤ → Result ℤ Refusal
+area_unless (some r) twice = Err r
+area_unless none twice = Ok twice
 
-unfoldable pub twice_area_of : List ℤ → Area
+unfoldable pub twice_area_of : List ℤ → Result ℤ Refusal
 unfolding twice_area points
 twice_area_of list = area_unless (twice_area_refusal list) (twice_area (points list))
 
@@ -43,13 +41,13 @@ areas_by_refusal list kept =
     refuse BadFlags when bad_flags (count list) kept || not (ends_kept kept) or
     none
 
-abbrev pub areas_unless : Option Refusal → Measured → Measured
-areas_unless (some r) areas = Refused r
+abbrev pub areas_unless : Option Refusal → Result Areas Refusal → Result Areas Refusal
+areas_unless (some r) areas = Err r
 areas_unless none areas = areas
 
-unfoldable pub areas_by_of : List ℤ → List ℕ → Measured
+unfoldable pub areas_by_of : List ℤ → List ℕ → Result Areas Refusal
 unfolding three_areas ends_kept points
-areas_by_of list kept = areas_unless (areas_by_refusal list kept) (Are (three_areas kept (points list)))
+areas_by_of list kept = areas_unless (areas_by_refusal list kept) (Ok (three_areas kept (points list)))
 
 -- ---- the areas of a list at a squared tolerance
 
@@ -64,8 +62,8 @@ areas_at_refusal list tolerance marks =
     none
 
 -- what is kept is what Douglas-Peucker marks, and the marks are left: "places past the answer hold theirs"
-unfoldable pub areas_at_of : List ℤ → Float → List ℕ → Outcome Measured (List ℕ)
+unfoldable pub areas_at_of : List ℤ → Float → List ℕ → Outcome (Result Areas Refusal) (List ℕ)
 unfolding outcome three_areas marks_of points over
 areas_at_of list tolerance marks =
-    outcome Refused (areas_at_refusal list tolerance marks) marks
-    (record { answer = Are (three_areas (marks_of tolerance list) (points list)); out = over (marks_of tolerance list) marks })
+    outcome (areas_at_refusal list tolerance marks) marks
+    (record { answer = Ok (three_areas (marks_of tolerance list) (points list)); out = over (marks_of tolerance list) marks })

@@ -1,5 +1,5 @@
 -- specs/ is all that you have to believe. Read Areas first: twice the area of a list, and the gaps that a choice of its points leaves. Calls has what
--- the calls refuse and answer, Totals the areas of two lists together, Answers the numbers and values of the answers, and Examples worked ones. What
+-- the calls refuse and answer, Totals the areas of two lists together, Answers the values of the answers, and Examples worked ones. What
 -- stands in inside/ nobody need believe.
 pub mod Areas
 pub mod Calls

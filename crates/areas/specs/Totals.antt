@@ -1,10 +1,9 @@
 -- Totals: "10 when a total would leave i64".
-use Rattle.std.specs.Prelude.{Bool, ◌&&◌, ℤ, pos, negsuc, ◌+ℤ◌, if◌then◌else◌}
+use Rattle.std.specs.Prelude.{Bool, ◌&&◌, ℤ, pos, negsuc, ◌+ℤ◌, if◌then◌else◌, Result, Ok, Err}
 use Rattle.std.specs.Int.Signed.{le_z}
+use Rattle.point.specs.declared.refusal.Refusal.{Refusal}
 use Rattle.point.specs.declared.refusal.Refusal.TheVariants.{NoRoom}
 use Rattle.areas.specs.declared.Areas.{Areas}
-use Rattle.areas.specs.declared.Measured.{Measured}
-use Rattle.areas.specs.declared.Measured.TheVariants.{Are, Refused}
 
 -- i64 holds it: from -2^63 to 2^63 - 1
 unfoldable pub fits : ℤ → Bool
@@ -14,7 +13,7 @@ fits z = le_z (negsuc 9223372036854775807) z && le_z z (pos 9223372036854775807)
 abbrev pub plus : Areas → Areas → Areas
 plus a b = record { whole = a.whole +ℤ b.whole; kept = a.kept +ℤ b.kept; gaps = a.gaps +ℤ b.gaps }
 
-unfoldable pub together_of : Areas → Areas → Measured
+unfoldable pub together_of : Areas → Areas → Result Areas Refusal
 unfolding fits
 together_of a b =
-    if fits (a.whole +ℤ b.whole) && fits (a.kept +ℤ b.kept) && fits (a.gaps +ℤ b.gaps) then Are (plus a b) else Refused NoRoom
+    if fits (a.whole +ℤ b.whole) && fits (a.kept +ℤ b.kept) && fits (a.gaps +ℤ b.gaps) then Ok (plus a b) else Err NoRoom

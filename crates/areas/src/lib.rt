@@ -10,55 +10,13 @@ mod lists;
 mod sums;
 mod totals;
 
-ghost use Rattle.std.specs.Prelude.{◌≡◌};
-ghost use Rattle.areas.specs.Answers.{area_number, measured_number};
-
 pub use lists::{areas_at, areas_by, twice_area};
-use point::Refusal;
 pub use totals::together;
 
 // Twice the area of a list, of its kept points, and of all gaps between them.
-#[derive(Clone, Copy)]
+#[derive(Clone, Copy, PartialEq, Eq)]
 pub struct Areas {
     pub whole: i64,
     pub kept: i64,
     pub gaps: i64,
-}
-
-// The area of a list.
-#[derive(Clone, Copy)]
-pub enum Area {
-    Twice(i64),
-    Refused(Refusal),
-}
-
-// The areas of a list and a choice of its points; or of two such together.
-#[derive(Clone, Copy)]
-pub enum Measured {
-    Are(Areas),
-    Refused(Refusal),
-}
-
-impl Area {
-    // Document 01's number.
-    pub fn number(self) -> u8
-        ensures { result ≡ area_number self }
-    {
-        match self {
-            Area::Twice(_) => 0,
-            Area::Refused(refusal) => refusal.number(),
-        }
-    }
-}
-
-impl Measured {
-    // Document 01's number.
-    pub fn number(self) -> u8
-        ensures { result ≡ measured_number self }
-    {
-        match self {
-            Measured::Are(_) => 0,
-            Measured::Refused(refusal) => refusal.number(),
-        }
-    }
 }

@@ -3,69 +3,54 @@ ghost use Rattle.std.specs.Prelude.{◌<◌, ◌≡◌, length};
 ghost use Rattle.areas.specs.Areas.{ends_kept};
 ghost use Rattle.areas.specs.Calls.{twice_area_of, areas_by_of, areas_at_of};
 
-use crate::{Area, Measured, sums};
+use crate::{Areas, sums};
 use point::Refusal;
 
 // Twice the signed area of a list of points, closed from last to first. Of no points it is 0.
-pub fn twice_area(points: &[i32]) -> Area
+pub fn twice_area(points: &[i32]) -> Result<i64, Refusal>
     ensures { result ≡ twice_area_of points.now }
 {
-    if point::too_many(points.len()) {
-        return Area::Refused(Refusal::TooMany);
-    }
-    if point::bad_points(points) {
-        return Area::Refused(Refusal::BadPoint);
-    }
-    Area::Twice(sums::area(points))
+    point::judge_points(points)?;
+    Ok(sums::area(points))
 }
 
 // The areas of a list and of the points that `kept` chooses: 1 for each that is kept and 0 for each that is not, with
 // both ends, as the marks of a reduction are.
-pub fn areas_by(points: &[i32], kept: &[u8]) -> Measured
+pub fn areas_by(points: &[i32], kept: &[u8]) -> Result<Areas, Refusal>
     ensures { result ≡ areas_by_of points.now kept.now }
 {
     let n = points.len() / 2;
-    if point::too_many(points.len()) {
-        return Measured::Refused(Refusal::TooMany);
-    }
-    if point::bad_points(points) {
-        return Measured::Refused(Refusal::BadPoint);
-    }
+    point::judge_points(points)?;
     if n == 0 {
-        return Measured::Refused(Refusal::TooFew);
+        return Err(Refusal::TooFew);
     }
     if point::bad_flags(kept, n) {
-        return Measured::Refused(Refusal::BadFlags);
+        return Err(Refusal::BadFlags);
     }
     if !ends_kept(kept) {
-        return Measured::Refused(Refusal::BadFlags);
+        return Err(Refusal::BadFlags);
     }
-    Measured::Are(sums::add_up(points, kept))
+    Ok(sums::add_up(points, kept))
 }
 
 // The areas of a list and of the points that Douglas-Peucker keeps at a squared tolerance. A mark for each point, 1 if
 // it is kept and 0 if not, is put at the start of `marks`.
-pub fn areas_at(points: &[i32], tolerance: f64, marks: &mut [u8]) -> Measured
+pub fn areas_at(points: &[i32], tolerance: f64, marks: &mut [u8]) -> Result<Areas, Refusal>
     ensures { record { answer = result; out = marks.new } ≡ areas_at_of points.now tolerance marks.old }
 {
     let n = points.len() / 2;
-    if point::too_many(points.len()) {
-        return Measured::Refused(Refusal::TooMany);
-    }
-    if point::bad_points(points) {
-        return Measured::Refused(Refusal::BadPoint);
-    }
+    point::judge_points(points)?;
     if n == 0 {
-        return Measured::Refused(Refusal::TooFew);
+        return Err(Refusal::TooFew);
     }
     if point::bad_sq_tolerance(tolerance) {
-        return Measured::Refused(Refusal::BadTolerance);
+        return Err(Refusal::BadTolerance);
     }
     if marks.len() < n {
-        return Measured::Refused(Refusal::NoRoom);
+        return Err(Refusal::NoRoom);
     }
     split::mark_waiting(points, tolerance, marks);
-    Measured::Are(sums::add_up(points, &marks[0..n]))
+    Ok(sums::add_up(points, &marks[..n]))
 }
 
 // Whether both ends of a choice are kept.

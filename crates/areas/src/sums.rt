@@ -1,5 +1,5 @@
 // Cross products, added up along a list of points. Callers have judged the list.
-ghost use Rattle.std.specs.Prelude.{◌<◌, ◌≤◌, true, false, ◌≡◌, nat_abs, ◌+ℤ◌, length};
+ghost use Rattle.std.specs.Prelude.{◌<◌, ◌≤◌, true, false, ◌≡◌, nat_abs, length};
 ghost use Rattle.point.specs.Limits.{bad_points};
 ghost use Rattle.point.specs.Points.{count, points as points_of};
 ghost use Rattle.point.specs.inside.Near.{Near};
@@ -14,18 +14,15 @@ pub(crate) fn area(points: &[i32]) -> i64
     requires { (bad_points points.now ≡ false) × (count points.now ≤ 4096) }
     ensures { result ≡ twice_area (points_of points.now) }
 {
-    let n = points.len() / 2;
     let first = point::point_at(points, 0);
     let mut prev = first;
     let mut sum = 0i64;
-    let mut i = 1;
-    while i < n {
-        let p = point::point_at(points, i);
-        sum = plus(sum, prev, p);
+    for k in 1..points.len() / 2 {
+        let p = point::point_at(points, k);
+        sum += edge(prev, p);
         prev = p;
-        i += 1;
     }
-    plus(sum, prev, first)
+    sum + edge(prev, first)
 }
 
 // The three areas of a list by its marks, one for each point, of which both ends are kept.
@@ -34,7 +31,6 @@ pub(crate) fn add_up(points: &[i32], marks: &[u8]) -> Areas
         × (length marks.now ≡ count points.now) × (ends_kept marks.now ≡ true) }
     ensures { result ≡ three_areas marks.now (points_of points.now) }
 {
-    let n = points.len() / 2;
     let first = point::point_at(points, 0);
     let mut prev = first;
     let mut from = first;
@@ -43,13 +39,10 @@ pub(crate) fn add_up(points: &[i32], marks: &[u8]) -> Areas
         kept: 0,
         gaps: 0,
     };
-    let mut i = 1;
-    while i < n {
-        let k = i;
+    for k in 1..points.len() / 2 {
         let p = point::point_at(points, k);
         sums = along(sums, prev, p);
         prev = p;
-        i += 1;
         if marks[k] != 0 {
             sums = across(sums, from, p);
             from = p;
@@ -95,14 +88,6 @@ fn closed(sums: Areas, last: PointI32, first: PointI32) -> Areas
         kept: sums.kept + step,
         gaps: sums.gaps,
     }
-}
-
-// What the edge from one point to another adds, to a sum.
-fn plus(sum: i64, p: PointI32, q: PointI32) -> i64
-    requires { (nat_abs sum ≤ 9000000000000) × Near p × Near q }
-    ensures { result ≡ sum +ℤ edge p q }
-{
-    sum + edge(p, q)
 }
 
 // What the edge from one point to another adds to twice an area.

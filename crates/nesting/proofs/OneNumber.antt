@@ -14,13 +14,12 @@ use lib.Ieee.{Float, nan, inf, binary64, of_int, lt, le}
 use lib.ListN.{length, get_or, take, drop, replicate, length-map, length-append}
 use lib.Seq.{get_or_at}
 use borrow.Author.Tests.{ne_eqb, le-ltb}
-use Rattle.std.specs.Prelude.{if◌then◌else◌}
+use Rattle.std.specs.Prelude.{if◌then◌else◌, Result, Ok}
 use Rattle.laws.specs.Lists.{over}
 use Rattle.laws.specs.Outcome.{Outcome}
 use Rattle.laws.proofs.Lists.{get_d_over_front, take_over_all}
 use Rattle.point.specs.Refusals.{count_of}
-use Rattle.point.specs.declared.refusal.Answer.{Answer}
-use Rattle.point.specs.declared.refusal.Answer.TheVariants.{Done}
+use Rattle.point.specs.declared.refusal.Refusal.{Refusal}
 use Rattle.point.specs.Limits.{too_many, bad_points, bad_sq_tolerance}
 use Rattle.point.specs.Points.{flat, points, count, point_at}
 use Rattle.point.specs.declared.PointI32.{PointI32}
@@ -70,7 +69,7 @@ pub record Decides (list : List ℤ) (numbers : List Float) : Type 0 where
   pub at_every_tolerance : (tolerance : Float) → bad_sq_tolerance tolerance ≡ false → (out : List ℤ) (marks : List ℕ) → Room list out marks →
       douglas_peucker_of list tolerance out marks
       ≡ record {
-        answer = Done (length (kept_positions list numbers tolerance));
+        answer = Ok (length (kept_positions list numbers tolerance));
         out = (
           over (flat (map (point_at list) (kept_positions list numbers tolerance))) out,
           over (map (λ k. mark (above tolerance numbers k)) (positions 0 (count list))) marks,
@@ -85,11 +84,11 @@ pub record Decides (list : List ℤ) (numbers : List Float) : Type 0 where
 -- ---- the words of what follows
 
 -- a call keeps a position: its mark there is 1
-abbrev pub Keeps : Outcome Answer (List ℤ × List ℕ) → ℕ → Type 0
+abbrev pub Keeps : Outcome (Result ℕ Refusal) (List ℤ × List ℕ) → ℕ → Type 0
 Keeps call k = get_or call.out.1 k 0 ≡ 1
 
 -- the points that a call leaves: as many as it answers, from the start of its buffer
-abbrev pub left_by : Outcome Answer (List ℤ × List ℕ) → List PointI32
+abbrev pub left_by : Outcome (Result ℕ Refusal) (List ℤ × List ℕ) → List PointI32
 left_by call = points (take (count_of call.answer * 2) call.out.0)
 
 -- ---- the calls, on a list that they take
@@ -97,7 +96,7 @@ left_by call = points (take (count_of call.answer * 2) call.out.0)
 module _ (list : List ℤ) (few : too_many (length list) ≡ false) (good : bad_points list ≡ false) (two : 2 ≤ count list) where
   -- ---- every test is passed
 
-  numbered : (buffer : List Float) → count list ≤ length buffer → numbered_of list buffer ≡ record { answer = Done (count list); out = over (numbers_of list) buffer }
+  numbered : (buffer : List Float) → count list ≤ length buffer → numbered_of list buffer ≡ record { answer = Ok (count list); out = over (numbers_of list) buffer }
   unfolding numbered_of
   numbered buffer h = rw (few, good, ne_eqb (count list) 0 (λ z. omega arith), ne_eqb (count list) 1 (λ z. omega arith), le-ltb _ _ h)
 
@@ -166,8 +165,8 @@ module _ (list : List ℤ) (few : too_many (length list) ≡ false) (good : bad_
     decides = record {
       at_every_tolerance = λ t fine out marks room.
           split_done t fine out marks room
-          ∙ ap₂ (λ (ps : List PointI32) (ms : List ℕ). record { answer = Done (length ps); out = (over (flat ps) out, over ms marks) }) (kept_are t fine) (marks_are t fine)
-          ∙ ap (λ (n : ℕ). record { answer = Done n; out = (over (flat (map (point_at list) (kept_positions list numbers t))) out, over (map (λ k. mark (above t numbers k)) (positions 0 (count list))) marks) })
+          ∙ ap₂ (λ (ps : List PointI32) (ms : List ℕ). record { answer = Ok (length ps); out = (over (flat ps) out, over ms marks) }) (kept_are t fine) (marks_are t fine)
+          ∙ ap (λ (n : ℕ). record { answer = Ok n; out = (over (flat (map (point_at list) (kept_positions list numbers t))) out, over (map (λ k. mark (above t numbers k)) (positions 0 (count list))) marks) })
           (length-map (kept_positions list numbers t) (point_at list));
       first_carries_infinity = first_infinity;
       last_carries_infinity = last_infinity;
@@ -178,10 +177,10 @@ module _ (list : List ℤ) (few : too_many (length list) ≡ false) (good : bad_
 
   -- `numbers` leaves the list's numbers at the start of its buffer, and they decide.
   pub one_number_per_point : (buffer : List Float) → count list ≤ length buffer →
-      (numbered_of list buffer ≡ record { answer = Done (count list); out = over (numbers_of list) buffer }) × Decides list (numbered_of list buffer).out
+      (numbered_of list buffer ≡ record { answer = Ok (count list); out = over (numbers_of list) buffer }) × Decides list (numbered_of list buffer).out
   one_number_per_point buffer h = (
     numbered buffer h,
-    subst (λ (l : List Float). Decides list l) (sym (ap (λ (c : Outcome Answer (List Float)). c.out) (numbered buffer h))) (unfold over in decides (drop (length (numbers_of list)) buffer)),
+    subst (λ (l : List Float). Decides list l) (sym (ap (λ (c : Outcome (Result ℕ Refusal) (List Float)). c.out) (numbered buffer h))) (unfold over in decides (drop (length (numbers_of list)) buffer)),
   )
 
   -- ---- so zooms nest, and dropped points are near
@@ -189,7 +188,7 @@ module _ (list : List ℤ) (few : too_many (length list) ≡ false) (good : bad_
   module _ (tolerance : Float) (fine : bad_sq_tolerance tolerance ≡ false) (out : List ℤ) (marks : List ℕ) (room : Room list out marks) where
     marks_left : (k : ℕ) → k < count list → get_or (douglas_peucker_of list tolerance out marks).out.1 k 0 ≡ get_or (marks_of tolerance list) k 0
     marks_left k h =
-        ap (λ (c : Outcome Answer (List ℤ × List ℕ)). get_or c.out.1 k 0) (split_done tolerance fine out marks room)
+        ap (λ (c : Outcome (Result ℕ Refusal) (List ℤ × List ℕ)). get_or c.out.1 k 0) (split_done tolerance fine out marks room)
         ∙ get_d_over_front (marks_of tolerance list) marks k 0 (omega (arith, a_mark_for_each_point list tolerance (omega arith)))
 
     points_left : left_by (douglas_peucker_of list tolerance out marks) ≡ map (point_at list) (kept_positions list (numbers_of list) tolerance)

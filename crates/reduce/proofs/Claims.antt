@@ -10,6 +10,7 @@ use lib.Ieee.{Float, binary64, of_bits, mul}
 use lib.IntN.{ℤ}
 use lib.ListN.{length}
 use borrow.Author.Tests.{ltb-false}
+use Rattle.std.specs.Prelude.{Result, Ok, Err}
 use Rattle.laws.specs.Outcome.{Outcome}
 use Rattle.laws.specs.Lists.{over}
 use Rattle.laws.proofs.Determined.{Determined, same}
@@ -19,14 +20,11 @@ use Rattle.point.specs.Outcomes.{Points, handed}
 use Rattle.point.specs.Points.{points, count, flat}
 use Rattle.point.specs.Refusals.{count_of}
 use Rattle.point.specs.declared.PointI32.{PointI32}
-use Rattle.point.specs.declared.refusal.Answer.{Answer}
-use Rattle.point.specs.declared.refusal.Answer.TheVariants.{Done, Refused}
 use Rattle.point.specs.declared.refusal.Refusal.{Refusal}
 use Rattle.point.proofs.Claims.{refusal_changes_nothing}
 use Rattle.point.proofs.Flat.{length_points, count_flat}
 use Rattle.point.proofs.Room.{places_enough, places_shorter}
 use Rattle.split.specs.Tree.{marks_of, numbers_of}
-use Rattle.reduce.specs.Answers.{counted_number, counted_count, distances_of, answer_of}
 use Rattle.reduce.specs.DouglasPeucker.{douglas_peucker_refusal, kept_and_marked, douglas_peucker_of, counted_douglas_peucker_of}
 use Rattle.reduce.specs.Kept.{kept, short_for}
 use Rattle.reduce.specs.Numbers.{numbers_refusal, numbered_of, counted_numbered_of}
@@ -38,10 +36,6 @@ use Rattle.reduce.proofs.Reduction.{in_whole, many_points, answers_whole, answer
 use Rattle.point.proofs.Verdicts.{passes}
 use Rattle.reduce.proofs.Room.{counts, places, marks_fit}
 use Rattle.reduce.proofs.Uncounted.{uncounted, douglas_peucker_uncounted, numbers_uncounted}
-use Rattle.reduce.proofs.Counted.answer.Reads.{Post as CountedAnswer}
-use Rattle.reduce.proofs.Counted.count.Reads.{Post as CountedCount}
-use Rattle.reduce.proofs.Counted.distances.Reads.{Post as CountedDistances}
-use Rattle.reduce.proofs.Counted.number.Reads.{Post as CountedNumber}
 use Rattle.reduce.proofs.both_passes.reduce.Reads.{Post as Reduce}
 use Rattle.reduce.proofs.douglas_peucker.simplify_douglas_peucker.Reads.{Post as DouglasPeucker}
 use Rattle.reduce.proofs.douglas_peucker.simplify_douglas_peucker_counted.Reads.{Post as DouglasPeuckerCounted}
@@ -59,17 +53,17 @@ pub radial_determined : Determined (List ℤ × Float × List ℤ) Points Radial
     (λ _ r s. record { answer = r; out = s.1.1.0.now })
 radial_determined = same (λ x. radial_of x.0 x.1 x.2) (λ _ a r s p. p)
 
-pub douglas_peucker_determined : Determined (List ℤ × Float × List ℤ × List ℕ) (Outcome Answer (List ℤ × List ℕ)) DouglasPeucker
+pub douglas_peucker_determined : Determined (List ℤ × Float × List ℤ × List ℕ) (Outcome (Result ℕ Refusal) (List ℤ × List ℕ)) DouglasPeucker
     (λ _ a. (a.0.now, a.1.0, a.1.1.0.now, a.1.1.1.0.now))
     (λ _ r s. record { answer = r; out = (s.1.1.0.now, s.1.1.1.0.now) })
 douglas_peucker_determined = same (λ x. douglas_peucker_of x.0 x.1 x.2 x.3) (λ _ a r s p. p)
 
-pub reduce_determined : Determined (List ℤ × Float × List ℤ × List ℤ × List ℕ) (Outcome Answer (List ℤ × List ℤ × List ℕ)) Reduce
+pub reduce_determined : Determined (List ℤ × Float × List ℤ × List ℤ × List ℕ) (Outcome (Result ℕ Refusal) (List ℤ × List ℤ × List ℕ)) Reduce
     (λ _ a. (a.0.now, a.1.0, a.1.1.0.now, a.1.1.1.0.now, a.1.1.1.1.0.now))
     (λ _ r s. record { answer = r; out = (s.1.1.0.now, s.1.1.1.0.now, s.1.1.1.1.0.now) })
 reduce_determined = same (λ x. reduce_of x.0 x.1 x.2 x.3 x.4) (λ _ a r s p. p)
 
-pub numbers_determined : Determined (List ℤ × List Float) (Outcome Answer (List Float)) Numbers
+pub numbers_determined : Determined (List ℤ × List Float) (Outcome (Result ℕ Refusal) (List Float)) Numbers
     (λ _ a. (a.0.now, a.1.0.now))
     (λ _ r s. record { answer = r; out = s.1.0.now })
 numbers_determined = same (λ x. numbered_of x.0 x.1) (λ _ a r s p. p)
@@ -79,27 +73,15 @@ pub zoom_determined : Determined (List ℤ × List Float × Float × List ℤ) P
     (λ _ r s. record { answer = r; out = s.1.1.1.0.now })
 zoom_determined = same (λ x. zoom_of x.0 x.1 x.2 x.3) (λ _ a r s p. p)
 
-pub douglas_peucker_counted_determined : Determined (List ℤ × Float × List ℤ × List ℕ) (Outcome Counted (List ℤ × List ℕ)) DouglasPeuckerCounted
+pub douglas_peucker_counted_determined : Determined (List ℤ × Float × List ℤ × List ℕ) (Outcome (Result Counted Refusal) (List ℤ × List ℕ)) DouglasPeuckerCounted
     (λ _ a. (a.0.now, a.1.0, a.1.1.0.now, a.1.1.1.0.now))
     (λ _ r s. record { answer = r; out = (s.1.1.0.now, s.1.1.1.0.now) })
 douglas_peucker_counted_determined = same (λ x. counted_douglas_peucker_of x.0 x.1 x.2 x.3) (λ _ a r s p. p)
 
-pub numbers_counted_determined : Determined (List ℤ × List Float) (Outcome Counted (List Float)) NumbersCounted
+pub numbers_counted_determined : Determined (List ℤ × List Float) (Outcome (Result Counted Refusal) (List Float)) NumbersCounted
     (λ _ a. (a.0.now, a.1.0.now))
     (λ _ r s. record { answer = r; out = s.1.0.now })
 numbers_counted_determined = same (λ x. counted_numbered_of x.0 x.1) (λ _ a r s p. p)
-
-pub counted_number_determined : Determined Counted ℕ CountedNumber (λ _ a. a.0) (λ _ r s. r)
-counted_number_determined = same counted_number (λ _ a r s p. p)
-
-pub counted_count_determined : Determined Counted ℕ CountedCount (λ _ a. a.0) (λ _ r s. r)
-counted_count_determined = same counted_count (λ _ a r s p. p)
-
-pub counted_distances_determined : Determined Counted ℕ CountedDistances (λ _ a. a.0) (λ _ r s. r)
-counted_distances_determined = same distances_of (λ _ a r s p. p)
-
-pub counted_answer_determined : Determined Counted Answer CountedAnswer (λ _ a. a.0) (λ _ r s. r)
-counted_answer_determined = same answer_of (λ _ a r s p. p)
 
 -- ---- with its work counted a call answers what it answers without
 
@@ -112,7 +94,7 @@ numbers_count_beside = numbers_uncounted
 -- ---- a refusal changes no buffer, and what an answer counts has its place in the buffer
 
 module _ (list : List ℤ) (tolerance : Float) (out : List ℤ) where
-  pub radial_unchanged : (r : Refusal) → (radial_of list tolerance out).answer ≡ Refused r → (radial_of list tolerance out).out ≡ out
+  pub radial_unchanged : (r : Refusal) → (radial_of list tolerance out).answer ≡ Err r → (radial_of list tolerance out).out ≡ out
   unfolding radial_of
   radial_unchanged r = refusal_changes_nothing (radial_refusal list tolerance out) out (handed (radial tolerance (points list)) out) (length (radial tolerance (points list))) refl r
 
@@ -128,7 +110,7 @@ module _ (list : List ℤ) (tolerance : Float) (out : List ℤ) where
           (omega (arith, radial_shorter tolerance (points list), length_points list, places_enough (count list)))
 
 module _ (list : List ℤ) (tolerance : Float) (out : List ℤ) (marks : List ℕ) where
-  pub douglas_peucker_unchanged : (r : Refusal) → (douglas_peucker_of list tolerance out marks).answer ≡ Refused r → (douglas_peucker_of list tolerance out marks).out ≡ (out, marks)
+  pub douglas_peucker_unchanged : (r : Refusal) → (douglas_peucker_of list tolerance out marks).answer ≡ Err r → (douglas_peucker_of list tolerance out marks).out ≡ (out, marks)
   unfolding douglas_peucker_of
   douglas_peucker_unchanged r =
       refusal_changes_nothing (douglas_peucker_refusal list tolerance out marks) (out, marks) (kept_and_marked list tolerance out marks)
@@ -148,10 +130,10 @@ module _ (list : List ℤ) (tolerance : Float) (out : List ℤ) (marks : List �
           (both_false (short_for (count list) out) (ltb (length marks) (count list)) room).0 (marks_fit (marks_of tolerance list) list)
 
 module _ (list : List ℤ) (out : List Float) where
-  abbrev numbered : Outcome Answer (List Float)
-  numbered = record { answer = Done (count list); out = over (numbers_of list) out }
+  abbrev numbered : Outcome (Result ℕ Refusal) (List Float)
+  numbered = record { answer = Ok (count list); out = over (numbers_of list) out }
 
-  pub numbers_unchanged : (r : Refusal) → (numbered_of list out).answer ≡ Refused r → (numbered_of list out).out ≡ out
+  pub numbers_unchanged : (r : Refusal) → (numbered_of list out).answer ≡ Err r → (numbered_of list out).out ≡ out
   unfolding numbered_of
   numbers_unchanged r = refusal_changes_nothing (numbers_refusal list out) out numbered (count list) refl r
 
@@ -169,7 +151,7 @@ module _ (list : List ℤ) (numbers : List Float) (tolerance : Float) (out : Lis
   abbrev zoomed : List PointI32
   zoomed = kept (marks_by tolerance numbers) (points list)
 
-  pub zoom_unchanged : (r : Refusal) → (zoom_of list numbers tolerance out).answer ≡ Refused r → (zoom_of list numbers tolerance out).out ≡ out
+  pub zoom_unchanged : (r : Refusal) → (zoom_of list numbers tolerance out).answer ≡ Err r → (zoom_of list numbers tolerance out).out ≡ out
   unfolding zoom_of
   zoom_unchanged r = refusal_changes_nothing (zoom_refusal list numbers tolerance out) out (handed zoomed out) (length zoomed) refl r
 
@@ -192,11 +174,11 @@ module _ (list : List ℤ) (tolerance : Float) (out scratch : List ℤ) (marks :
   left true = count list
   left false = length (kept (marks_of (mul binary64 tolerance tolerance) (flat ring)) (points (flat ring)))
 
-  done : (t : Bool) → in_whole list tolerance ≡ t → (reduction list tolerance out scratch marks).answer ≡ Done (left t)
+  done : (t : Bool) → in_whole list tolerance ≡ t → (reduction list tolerance out scratch marks).answer ≡ Ok (left t)
   done true e = rw (answers_whole list tolerance out scratch marks e)
   done false e = rw (answers_narrowed list tolerance out scratch marks e)
 
-  pub reduce_unchanged : (r : Refusal) → (reduce_of list tolerance out scratch marks).answer ≡ Refused r → (reduce_of list tolerance out scratch marks).out ≡ (out, scratch, marks)
+  pub reduce_unchanged : (r : Refusal) → (reduce_of list tolerance out scratch marks).answer ≡ Err r → (reduce_of list tolerance out scratch marks).out ≡ (out, scratch, marks)
   unfolding reduce_of
   reduce_unchanged r =
       refusal_changes_nothing (reduce_refusal list tolerance out scratch marks) (out, scratch, marks) (reduction list tolerance out scratch marks)

@@ -8,21 +8,20 @@ use native.Mathlib.Omega.{arith}
 use lib.IntN.{ℤ}
 use lib.ListN.{length}
 use borrow.Author.Tests.{ltb-false}
+use Rattle.std.specs.Prelude.{Result}
 use Rattle.laws.specs.Outcome.{Outcome}
 use Rattle.point.specs.Limits.{places_for}
 use Rattle.point.specs.Outcomes.{outcome}
 use Rattle.point.specs.Points.{points, count}
 use Rattle.point.specs.Refusals.{count_of}
-use Rattle.point.specs.declared.refusal.Answer.{Answer}
-use Rattle.point.specs.declared.refusal.Answer.TheVariants.{Refused}
 use Rattle.point.specs.declared.refusal.Refusal.{Refusal}
 use Rattle.point.proofs.Flat.{length_points}
 use Rattle.reduce.specs.Kept.{kept, short_for}
 use Rattle.reduce.proofs.Select.{kept_fits}
 
 -- a refusal counts 0: what holds of that, and of what is counted where nothing is refused, holds of every answer
-pub counts : {B : Type 0} (P : ℕ → Type 0) (o : Option Refusal) (old : B) (done : Outcome Answer B) → P 0 → (o ≡ none → P (count_of done.answer)) →
-    P (count_of (outcome Refused o old done).answer)
+pub counts : {B : Type 0} (P : ℕ → Type 0) (o : Option Refusal) (old : B) (done : Outcome (Result ℕ Refusal) B) → P 0 → (o ≡ none → P (count_of done.answer)) →
+    P (count_of (outcome o old done).answer)
 unfolding outcome
 counts P (some q) old done z f = z
 counts P none old done z f = f refl

@@ -6,11 +6,11 @@ use mathlib.Core.Path.{◌≡◌, refl}
 use lib.Ieee.{Float, lt}
 use lib.IntN.{ℤ}
 use lib.ListN.{length}
+use Rattle.std.specs.Prelude.{Result, Ok}
 use Rattle.laws.specs.Lists.{over}
 use Rattle.laws.specs.Outcome.{Outcome}
 use Rattle.point.specs.Outcomes.{outcome}
 use Rattle.point.specs.Points.{points, count}
-use Rattle.point.specs.declared.refusal.Answer.{Answer}
 use Rattle.point.specs.declared.refusal.Refusal.{Refusal}
 use Rattle.split.specs.Distance.{zero64}
 use Rattle.split.specs.Tree.{marks_of, numbers_of, tree}
@@ -20,14 +20,13 @@ use Rattle.reduce.specs.DouglasPeucker.{douglas_peucker_refusal, kept_and_marked
 use Rattle.reduce.specs.Kept.{kept}
 use Rattle.reduce.specs.Numbers.{numbers_refusal, numbered_of, counted_numbered_of}
 use Rattle.reduce.specs.declared.Counted.{Counted}
-use Rattle.reduce.specs.declared.Counted.TheVariants.{Done, Refused}
 
-abbrev pub uncounted : {B : Type 0} → Outcome Counted B → Outcome Answer B
+abbrev pub uncounted : {B : Type 0} → Outcome (Result Counted Refusal) B → Outcome (Result ℕ Refusal) B
 uncounted o = record { answer = answer_of o.answer; out = o.out }
 
 -- it refuses alike, and has done the same
 alone : {B : Type 0} (o : Option Refusal) (old b : B) (n d : ℕ)
-    → uncounted (outcome Refused o old (record { answer = Done n d; out = b })) ≡ outcome Answer.Refused o old (record { answer = Answer.Done n; out = b })
+    → uncounted (outcome o old (record { answer = Ok (record { points = n; distances = d }); out = b })) ≡ outcome o old (record { answer = Ok n; out = b })
 unfolding outcome
 alone (some r) old b n d = refl
 alone none old b n d = refl

@@ -1,24 +1,18 @@
--- The number and the values of an answer whose work is counted: document 01's number, how many points were handed out, and document 02's count of
--- distances (8/13).
-use Rattle.std.specs.Prelude.{ℕ}
-use Rattle.point.specs.Refusals.{refusal_number}
-use Rattle.point.specs.declared.refusal.Answer.{Answer}
+-- The values of an answer whose work is counted: how many points were handed out, and document 02's count of distances (8/13). A refusal has
+-- neither.
+use Rattle.std.specs.Prelude.{ℕ, Result, Ok, Err}
+use Rattle.point.specs.declared.refusal.Refusal.{Refusal}
 use Rattle.reduce.specs.declared.Counted.{Counted}
-use Rattle.reduce.specs.declared.Counted.TheVariants.{Done, Refused}
 
-abbrev pub counted_number : Counted → ℕ
-counted_number (Done points distances) = 0
-counted_number (Refused r) = refusal_number r
+abbrev pub counted_count : Result Counted Refusal → ℕ
+counted_count (Ok c) = c.points
+counted_count (Err r) = 0
 
-abbrev pub counted_count : Counted → ℕ
-counted_count (Done points distances) = points
-counted_count (Refused r) = 0
-
-abbrev pub distances_of : Counted → ℕ
-distances_of (Done points distances) = distances
-distances_of (Refused r) = 0
+abbrev pub distances_of : Result Counted Refusal → ℕ
+distances_of (Ok c) = c.distances
+distances_of (Err r) = 0
 
 -- the answer alone
-abbrev pub answer_of : Counted → Answer
-answer_of (Done points distances) = Answer.Done points
-answer_of (Refused r) = Answer.Refused r
+abbrev pub answer_of : Result Counted Refusal → Result ℕ Refusal
+answer_of (Ok c) = Ok c.points
+answer_of (Err r) = Err r

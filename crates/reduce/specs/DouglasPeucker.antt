@@ -1,6 +1,6 @@
 -- What `simplify_douglas_peucker` answers, and what the two buffers lent to it then hold. A list is laid `over` the start of a buffer: "places
 -- past the answer hold theirs".
-use Rattle.std.specs.Prelude.{ℕ, ◌||◌, List, ltb, eqb, ℤ, Float, length}
+use Rattle.std.specs.Prelude.{ℕ, ◌||◌, List, ltb, eqb, ℤ, Float, length, Result, Ok}
 use Rattle.std.proofs.Math.Option.{Option, none}
 use Rattle.std.specs.Float.Ieee.{lt}
 use Rattle.laws.specs.Lists.{over}
@@ -9,8 +9,6 @@ use Rattle.point.specs.Limits.{too_many, bad_points, bad_sq_tolerance}
 use Rattle.point.specs.Outcomes.{outcome}
 use Rattle.point.specs.Points.{flat, points, count}
 use Rattle.point.specs.Refusals.{refuse◌when◌or◌}
-use Rattle.point.specs.declared.refusal.Answer.{Answer}
-use Rattle.point.specs.declared.refusal.Answer.TheVariants.{Done, Refused}
 use Rattle.point.specs.declared.refusal.Refusal.{Refusal}
 use Rattle.point.specs.declared.refusal.Refusal.TheVariants.{TooMany, BadPoint, TooFew, BadTolerance, NoRoom}
 use Rattle.split.specs.Tree.{marks_of, tree}
@@ -29,22 +27,22 @@ douglas_peucker_refusal list tolerance out marks =
     none
 
 -- the points that are kept, and a mark for each point of the list
-abbrev pub kept_and_marked : List ℤ → Float → List ℤ → List ℕ → Outcome Answer (List ℤ × List ℕ)
+abbrev pub kept_and_marked : List ℤ → Float → List ℤ → List ℕ → Outcome (Result ℕ Refusal) (List ℤ × List ℕ)
 kept_and_marked list tolerance out marks =
     let ps = kept (marks_of tolerance list) (points list) in
-    record { answer = Done (length ps); out = (over (flat ps) out, over (marks_of tolerance list) marks) }
+    record { answer = Ok (length ps); out = (over (flat ps) out, over (marks_of tolerance list) marks) }
 
-unfoldable pub douglas_peucker_of : List ℤ → Float → List ℤ → List ℕ → Outcome Answer (List ℤ × List ℕ)
+unfoldable pub douglas_peucker_of : List ℤ → Float → List ℤ → List ℕ → Outcome (Result ℕ Refusal) (List ℤ × List ℕ)
 unfolding outcome kept marks_of flat points over
 douglas_peucker_of list tolerance out marks =
-    outcome Refused (douglas_peucker_refusal list tolerance out marks) (out, marks) (kept_and_marked list tolerance out marks)
+    outcome (douglas_peucker_refusal list tolerance out marks) (out, marks) (kept_and_marked list tolerance out marks)
 
 -- "Report how many distances were computed": document 02, 8/13
-unfoldable pub counted_douglas_peucker_of : List ℤ → Float → List ℤ → List ℕ → Outcome Counted (List ℤ × List ℕ)
+unfoldable pub counted_douglas_peucker_of : List ℤ → Float → List ℤ → List ℕ → Outcome (Result Counted Refusal) (List ℤ × List ℕ)
 unfolding outcome kept marks_of flat points over visits tree
 counted_douglas_peucker_of list tolerance out marks =
-    outcome Counted.Refused (douglas_peucker_refusal list tolerance out marks) (out, marks)
+    outcome (douglas_peucker_refusal list tolerance out marks) (out, marks)
     (record {
-      answer = Counted.Done (length (kept (marks_of tolerance list) (points list))) (visits (lt tolerance) (tree list));
+      answer = Ok (record { points = length (kept (marks_of tolerance list) (points list)); distances = visits (lt tolerance) (tree list) });
       out = (kept_and_marked list tolerance out marks).out;
     })

@@ -1,5 +1,5 @@
 -- What `numbers` answers, and what the buffer lent to it then holds: a number for each point, laid `over` its start.
-use Rattle.std.specs.Prelude.{List, ltb, eqb, ℤ, Float, length}
+use Rattle.std.specs.Prelude.{ℕ, List, ltb, eqb, ℤ, Float, length, Result, Ok}
 use Rattle.std.proofs.Math.Option.{Option, none}
 use Rattle.std.specs.Float.Ieee.{lt}
 use Rattle.laws.specs.Lists.{over}
@@ -8,8 +8,6 @@ use Rattle.point.specs.Limits.{too_many, bad_points, places_for}
 use Rattle.point.specs.Outcomes.{outcome}
 use Rattle.point.specs.Points.{count}
 use Rattle.point.specs.Refusals.{refuse◌when◌or◌}
-use Rattle.point.specs.declared.refusal.Answer.{Answer}
-use Rattle.point.specs.declared.refusal.Answer.TheVariants.{Done, Refused}
 use Rattle.point.specs.declared.refusal.Refusal.{Refusal}
 use Rattle.point.specs.declared.refusal.Refusal.TheVariants.{TooMany, BadPoint, TooFew, NoRoom}
 use Rattle.split.specs.Distance.{zero64}
@@ -26,14 +24,14 @@ numbers_refusal list out =
     refuse NoRoom when ltb (length out) (places_for (count list)) or
     none
 
-unfoldable pub numbered_of : List ℤ → List Float → Outcome Answer (List Float)
+unfoldable pub numbered_of : List ℤ → List Float → Outcome (Result ℕ Refusal) (List Float)
 unfolding outcome numbers_of over
 numbered_of list out =
-    outcome Refused (numbers_refusal list out) out (record { answer = Done (count list); out = over (numbers_of list) out })
+    outcome (numbers_refusal list out) out (record { answer = Ok (count list); out = over (numbers_of list) out })
 
 -- "Report how many distances were computed": document 02, 8/13. They stop where all distances are zero, so it is the count at the squared tolerance 0
-unfoldable pub counted_numbered_of : List ℤ → List Float → Outcome Counted (List Float)
+unfoldable pub counted_numbered_of : List ℤ → List Float → Outcome (Result Counted Refusal) (List Float)
 unfolding outcome numbers_of over visits tree
 counted_numbered_of list out =
-    outcome Counted.Refused (numbers_refusal list out) out
-    (record { answer = Counted.Done (count list) (visits (lt zero64) (tree list)); out = over (numbers_of list) out })
+    outcome (numbers_refusal list out) out
+    (record { answer = Ok (record { points = count list; distances = visits (lt zero64) (tree list) }); out = over (numbers_of list) out })

@@ -8,7 +8,6 @@ use Rattle.point.specs.Outcomes.{Points, outcome, handed}
 use Rattle.point.specs.Points.{points, count, same_point}
 use Rattle.point.specs.Refusals.{refuse◌when◌or◌}
 use Rattle.point.specs.declared.PointI32.{PointI32}
-use Rattle.point.specs.declared.refusal.Answer.TheVariants.{Refused}
 use Rattle.point.specs.declared.refusal.Refusal.{Refusal}
 use Rattle.point.specs.declared.refusal.Refusal.TheVariants.{TooMany, BadPoint, BadTolerance, NoRoom}
 use Rattle.reduce.specs.Kept.{short_for}
@@ -57,4 +56,4 @@ radial_refusal list tolerance out =
 -- what the call answers, and what the buffer lent to it then holds
 unfoldable pub radial_of : List ℤ → Float → List ℤ → Points
 unfolding outcome handed radial points
-radial_of list tolerance out = outcome Refused (radial_refusal list tolerance out) out (handed (radial tolerance (points list)) out)
+radial_of list tolerance out = outcome (radial_refusal list tolerance out) out (handed (radial tolerance (points list)) out)

@@ -1,6 +1,6 @@
 -- What `reduce` answers, and what the three buffers lent to it then hold. A list is laid `over` the start of a buffer: "places past the answer
 -- hold theirs".
-use Rattle.std.specs.Prelude.{ℕ, ◌*◌, true, false, ◌||◌, List, ltb, leb, ℤ, pos, Float, length}
+use Rattle.std.specs.Prelude.{ℕ, ◌*◌, true, false, ◌||◌, List, ltb, leb, ℤ, pos, Float, length, Result, Ok}
 use Rattle.std.proofs.Math.Option.{Option, none}
 use Rattle.std.specs.Float.{binary64}
 use Rattle.std.specs.Float.Ieee.{of_int, of_bits, mul, eq}
@@ -10,8 +10,6 @@ use Rattle.point.specs.Limits.{too_many, bad_points, bad_tolerance}
 use Rattle.point.specs.Outcomes.{outcome}
 use Rattle.point.specs.Points.{flat, points, count}
 use Rattle.point.specs.Refusals.{refuse◌when◌or◌}
-use Rattle.point.specs.declared.refusal.Answer.{Answer}
-use Rattle.point.specs.declared.refusal.Answer.TheVariants.{Done, Refused}
 use Rattle.point.specs.declared.refusal.Refusal.{Refusal}
 use Rattle.point.specs.declared.refusal.Refusal.TheVariants.{TooMany, BadPoint, BadTolerance, NoRoom}
 use Rattle.split.specs.Tree.{marks_of}
@@ -29,11 +27,11 @@ reduce_refusal list tolerance out scratch marks =
     none
 
 -- "the input for up to 2 points or tolerance 0": it is answered whole, and nothing else is touched
-abbrev pub answered_whole : List ℤ → List ℤ → List ℤ → List ℕ → Outcome Answer (List ℤ × List ℤ × List ℕ)
-answered_whole list out scratch marks = record { answer = Done (count list); out = (over list out, scratch, marks) }
+abbrev pub answered_whole : List ℤ → List ℤ → List ℤ → List ℕ → Outcome (Result ℕ Refusal) (List ℤ × List ℤ × List ℕ)
+answered_whole list out scratch marks = record { answer = Ok (count list); out = (over list out, scratch, marks) }
 
 -- "else the radial list in scratch": at half the squared tolerance, and then split at the whole
-abbrev pub answered_narrowed : List ℤ → Float → List ℤ → List ℤ → List ℕ → Outcome Answer (List ℤ × List ℤ × List ℕ)
+abbrev pub answered_narrowed : List ℤ → Float → List ℤ → List ℤ → List ℕ → Outcome (Result ℕ Refusal) (List ℤ × List ℤ × List ℕ)
 answered_narrowed list tolerance out scratch marks =
     let sq = mul binary64 tolerance tolerance in
     let ring = flat (radial (mul binary64 sq (of_bits binary64 0x3fe0000000000000)) (points list)) in
@@ -41,14 +39,14 @@ answered_narrowed list tolerance out scratch marks =
     record { answer = done.answer; out = (done.out.0, over ring scratch, done.out.1) }
 
 -- one or the other
-unfoldable pub reduction : List ℤ → Float → List ℤ → List ℤ → List ℕ → Outcome Answer (List ℤ × List ℤ × List ℕ)
+unfoldable pub reduction : List ℤ → Float → List ℤ → List ℤ → List ℕ → Outcome (Result ℕ Refusal) (List ℤ × List ℤ × List ℕ)
 unfolding radial kept marks_of flat points over
 reduction list tolerance out scratch marks = elim (leb (count list) 2 || eq tolerance (of_int binary64 (pos 0))) [
   | true ↦ answered_whole list out scratch marks
   | false ↦ answered_narrowed list tolerance out scratch marks
 ]
 
-unfoldable pub reduce_of : List ℤ → Float → List ℤ → List ℤ → List ℕ → Outcome Answer (List ℤ × List ℤ × List ℕ)
+unfoldable pub reduce_of : List ℤ → Float → List ℤ → List ℤ → List ℕ → Outcome (Result ℕ Refusal) (List ℤ × List ℤ × List ℕ)
 unfolding outcome reduction
 reduce_of list tolerance out scratch marks =
-    outcome Refused (reduce_refusal list tolerance out scratch marks) (out, scratch, marks) (reduction list tolerance out scratch marks)
+    outcome (reduce_refusal list tolerance out scratch marks) (out, scratch, marks) (reduction list tolerance out scratch marks)

@@ -6,7 +6,6 @@ use Rattle.point.specs.Limits.{too_many, bad_points, bad_sq_tolerance}
 use Rattle.point.specs.Outcomes.{Points, outcome, handed}
 use Rattle.point.specs.Points.{points, count}
 use Rattle.point.specs.Refusals.{refuse◌when◌or◌}
-use Rattle.point.specs.declared.refusal.Answer.TheVariants.{Refused}
 use Rattle.point.specs.declared.refusal.Refusal.{Refusal}
 use Rattle.point.specs.declared.refusal.Refusal.TheVariants.{TooMany, BadPoint, TooFew, BadTolerance, NoRoom}
 use Rattle.reduce.specs.Kept.{kept, short_for}
@@ -41,4 +40,4 @@ zoom_refusal list numbers tolerance out =
 unfoldable pub zoom_of : List ℤ → List Float → Float → List ℤ → Points
 unfolding outcome handed kept marks_by points
 zoom_of list numbers tolerance out =
-    outcome Refused (zoom_refusal list numbers tolerance out) out (handed (kept (marks_by tolerance numbers) (points list)) out)
+    outcome (zoom_refusal list numbers tolerance out) out (handed (kept (marks_by tolerance numbers) (points list)) out)

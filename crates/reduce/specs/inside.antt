@@ -1,2 +1,3 @@
 -- What private functions promise one another: nobody need believe it.
 pub mod Place
+pub mod Scratch

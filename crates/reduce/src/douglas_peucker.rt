@@ -4,7 +4,7 @@ ghost use Rattle.reduce.specs.DouglasPeucker.{douglas_peucker_of, counted_dougla
 
 use crate::Counted;
 use crate::keep::keep_marked;
-use point::{Answer, Refusal};
+use point::Refusal;
 
 // Puts the points that Douglas-Peucker keeps at the start of `out`, and a mark for each point of the
 // list at the start of `marks`: 1 if it is kept, 0 if not.
@@ -13,11 +13,11 @@ pub fn simplify_douglas_peucker(
     tolerance: f64,
     out: &mut [i32],
     marks: &mut [u8],
-) -> Answer
+) -> Result<usize, Refusal>
     ensures { record { answer = result; out = (out.new, marks.new) }
         ≡ douglas_peucker_of points.now tolerance out.old marks.old }
 {
-    simplify_douglas_peucker_counted(points, tolerance, out, marks).answer()
+    Ok(simplify_douglas_peucker_counted(points, tolerance, out, marks)?.points)
 }
 
 // The same, and answers how many distances were computed too.
@@ -26,32 +26,27 @@ pub fn simplify_douglas_peucker_counted(
     tolerance: f64,
     out: &mut [i32],
     marks: &mut [u8],
-) -> Counted
+) -> Result<Counted, Refusal>
     ensures { record { answer = result; out = (out.new, marks.new) }
         ≡ counted_douglas_peucker_of points.now tolerance out.old marks.old }
 {
     let n = points.len() / 2;
-    if point::too_many(points.len()) {
-        return Counted::Refused(Refusal::TooMany);
-    }
-    if point::bad_points(points) {
-        return Counted::Refused(Refusal::BadPoint);
-    }
+    point::judge_points(points)?;
     if n == 0 {
-        return Counted::Refused(Refusal::TooFew);
+        return Err(Refusal::TooFew);
     }
     if point::bad_sq_tolerance(tolerance) {
-        return Counted::Refused(Refusal::BadTolerance);
+        return Err(Refusal::BadTolerance);
     }
     if out.len() / 2 < point::places_for(n) {
-        return Counted::Refused(Refusal::NoRoom);
+        return Err(Refusal::NoRoom);
     }
     if marks.len() < n {
-        return Counted::Refused(Refusal::NoRoom);
+        return Err(Refusal::NoRoom);
     }
     let distances = split::mark_waiting(points, tolerance, marks);
-    Counted::Done {
+    Ok(Counted {
         points: keep_marked(points, marks, out),
         distances,
-    }
+    })
 }

@@ -16,74 +16,16 @@ mod numbering;
 mod radial;
 mod zooming;
 
-ghost use Rattle.std.specs.Prelude.{◌≡◌};
-ghost use Rattle.reduce.specs.Answers.{counted_number, counted_count, distances_of, answer_of};
-
 pub use both_passes::reduce;
 pub use douglas_peucker::{simplify_douglas_peucker, simplify_douglas_peucker_counted};
 pub use numbering::{numbers, numbers_counted};
-use point::{Answer, Refusal};
 pub use radial::simplify_radial_dist;
 pub use zooming::zoom;
 
-// The answer of a call whose work is counted: how many points it put into the lent buffer (of the numbers, how many
-// of these) and how many squared distances were computed for that, or why there are none.
-#[derive(Clone, Copy)]
-pub enum Counted {
-    Done { points: usize, distances: usize },
-    Refused(Refusal),
-}
-
-impl Counted {
-    // Document 01's number.
-    pub fn number(self) -> u8
-        ensures { result ≡ counted_number self }
-    {
-        match self {
-            Counted::Done {
-                points: _,
-                distances: _,
-            } => 0,
-            Counted::Refused(refusal) => refusal.number(),
-        }
-    }
-
-    // How many points it handed out: none when it refused.
-    pub fn count(self) -> usize
-        ensures { result ≡ counted_count self }
-    {
-        match self {
-            Counted::Done {
-                points,
-                distances: _,
-            } => points,
-            Counted::Refused(_) => 0,
-        }
-    }
-
-    // How many distances were computed: none when it refused.
-    pub fn distances(self) -> usize
-        ensures { result ≡ distances_of self }
-    {
-        match self {
-            Counted::Done {
-                points: _,
-                distances,
-            } => distances,
-            Counted::Refused(_) => 0,
-        }
-    }
-
-    // The answer alone.
-    pub fn answer(self) -> Answer
-        ensures { result ≡ answer_of self }
-    {
-        match self {
-            Counted::Done {
-                points,
-                distances: _,
-            } => Answer::Done(points),
-            Counted::Refused(refusal) => Answer::Refused(refusal),
-        }
-    }
+// What a call hands out whose work is counted: how many points it put into the lent buffer (of the numbers, how many
+// of these), and how many squared distances were computed for that.
+#[derive(Clone, Copy, PartialEq, Eq)]
+pub struct Counted {
+    pub points: usize,
+    pub distances: usize,
 }

@@ -16,6 +16,7 @@ pub mod Room
 pub mod Visited
 pub mod Walk
 pub mod Turns
+pub mod Passing
 pub mod Pieces
 pub mod Fitting
 pub mod Small

@@ -5,9 +5,8 @@ use mathlib.Core.Bool.{true, false, true≢false}
 use mathlib.Core.List.{List}
 use mathlib.Core.Logic.{◌⊎◌, inl, inr}
 use mathlib.Core.Path.{◌≡◌, refl, sym}
-use lib.Dec.{T}
 use lib.IntN.{ℤ}
-use lib.Ieee.{Float, nan, inf, fin, binary64, up, down, add, mul, lt, fits}
+use lib.Ieee.{Float, nan, inf, fin, binary64, up, down, add, mul, lt}
 use Rattle.laws.specs.inside.Finite.{NonNeg}
 use Rattle.laws.proofs.Finite.{infinity_nonneg, round_nonneg, add_nonneg}
 use Rattle.laws.specs.Least.{least}
@@ -17,13 +16,9 @@ use Rattle.split.specs.Distance.{squares, sq_seg_dist}
 use Rattle.split.specs.Farthest.{distance_in, farthest}
 use Rattle.split.proofs.Distances.{distance_fits}
 use Rattle.split.proofs.Folds.{far, farther_any}
-use Rattle.split.specs.inside.Spans.{Distance}
+use Rattle.split.specs.inside.Spans.{Distance, Square}
 use Rattle.split.specs.Tree.{span_tree}
 use Rattle.split.proofs.Trees.{Each, by_spans, reach}
-
-pub record Square (x : Float) : Type 0 where
-  pub unsigned : (x ≡ nan) ⊎ NonNeg x
-  pub fitting : T (fits binary64 x)
 
 square_unsigned : (x : Float) → (mul binary64 x x ≡ nan) ⊎ NonNeg (mul binary64 x x)
 unfolding mul

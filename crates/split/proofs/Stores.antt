@@ -1,13 +1,13 @@
--- A run of stores, `sets`, one more at a time: a loop that stores one value over a part of a list, and the stores of two spans with one
--- between them. Assumes nothing.
-use Prim.Native.Nat.{ℕ, suc, ◌+◌, ◌-◌, ◌≤◌, ◌<◌}
-use mathlib.Core.List.{List, [], ◌∷◌, ◌++◌}
+-- A run of stores, `sets`: a part of a list that is filled with one value, and the stores of two spans with one between them. Assumes nothing.
+use Prim.Native.Nat.{ℕ, suc, ◌+◌, ◌-◌, ◌≤◌}
+use mathlib.Core.List.{List, [], ◌∷◌, ◌++◌, append_assoc}
 use mathlib.Core.Path.{◌≡◌, sym, ap, ◌∙◌}
 use native.Mathlib.Nat.{add-zero, add-suc, suc-add}
 use native.Mathlib.Numerals.{add-one}
 use native.Mathlib.Omega.{arith}
-use lib.ListN.{length, set, replicate}
-use lib.Seq.{sets}
+use lib.ListN.{length, take, drop, set, replicate, length-drop, length-replicate}
+use lib.Seq.{sets, sets-eq, drop-drop, length-take-le}
+use borrow.Rule.Slice.PartMut.{mid_of, put_mid, same_len_mid}
 
 module _ {A : Type 0} where
   -- one list of stores behind another
@@ -15,17 +15,20 @@ module _ {A : Type 0} where
   sets_append l i [] ys = ap (λ (k : ℕ). sets l k ys) (sym (add-zero i))
   sets_append l i (x ∷ xs) ys = sets_append (set l i x) (suc i) xs ys ∙ ap (λ (k : ℕ). sets (sets (set l i x) (suc i) xs) k ys) (suc-add i (length xs) ∙ sym (add-suc i (length xs)))
 
-  -- the loop: what is left to store gives the whole
-  module _ (l l₀ : List A) (from to i : ℕ) (v : A) (inv : sets l i (replicate (to - i) v) ≡ sets l₀ from (replicate (to - from) v)) where
-    pub one_stored : i < to → sets (set l i v) (i + 1) (replicate (to - (i + 1)) v) ≡ sets l₀ from (replicate (to - from) v)
-    one_stored h =
-        let e : suc (to - (i + 1)) ≡ to - i = omega arith in
-        ap (λ (k : ℕ). sets (set l i v) k (replicate (to - (i + 1)) v)) (add-one i) ∙ ap (λ (n : ℕ). sets l i (replicate n v)) e ∙ inv
+  -- a part that was filled with one value
+  pub part_filled : (l ys : List A) (a b : ℕ) (v : A) → ys ≡ replicate (length (mid_of a (b - a) l)) v → a ≤ b → b ≤ length l
+      → put_mid a (b - a) l ys ≡ sets l a (replicate (b - a) v)
+  part_filled l ys a b v e h r =
+      let n : length (mid_of a (b - a) l) ≡ b - a = length-take-le (b - a) (drop a l) (rw length-drop (omega arith)) in
+      let z : length (replicate (b - a) v) ≡ b - a = length-replicate (b - a) v in
+      let i : a + length (replicate (b - a) v) ≤ length l = omega arith in
+      ap (λ (xs : List A). put_mid a (b - a) l xs) (e ∙ ap (λ (k : ℕ). replicate k v) n)
+      ∙ ap (λ (xs : List A). take a l ++ (replicate (b - a) v ++ xs)) (drop-drop (b - a) a l ∙ ap (λ (k : ℕ). drop (a + k) l) (sym z))
+      ∙ sym (append_assoc (take a l) (replicate (b - a) v) (drop (a + length (replicate (b - a) v)) l))
+      ∙ sym (sets-eq (replicate (b - a) v) l a i)
 
-    pub all_stored : to ≤ i → l ≡ sets l₀ from (replicate (to - from) v)
-    all_stored h =
-        let e : 0 ≡ to - i = omega arith in
-        ap (λ (n : ℕ). sets l i (replicate n v)) e ∙ inv
+  pub part_filled_length : (l ys : List A) (a b : ℕ) (v : A) → ys ≡ replicate (length (mid_of a (b - a) l)) v → length (put_mid a (b - a) l ys) ≡ length l
+  part_filled_length l ys a b v e = same_len_mid a (b - a) l ys (ap length e ∙ length-replicate (length (mid_of a (b - a) l)) v)
 
   -- two spans and what stands between them
   pub spans_stored : (l m : List A) (i k : ℕ) (xs : List A) (x : A) (ys : List A) → m ≡ sets l i xs → i + length xs ≡ k

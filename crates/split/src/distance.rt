@@ -18,6 +18,7 @@ pub struct Segment {
 }
 
 // The segment from one point to another.
+#[tactic(auto, unfolding(crate::specs::Distance::segment_of))]
 pub(crate) fn between(p1: PointI32, p2: PointI32) -> Segment
     ensures { result ≡ segment_of (place_of p1) (place_of p2) }
 {
@@ -30,13 +31,14 @@ pub(crate) fn between(p1: PointI32, p2: PointI32) -> Segment
         y: a.y,
         x2: b.x,
         y2: b.y,
-        dx: dx,
-        dy: dy,
+        dx,
+        dy,
         squared: dx * dx + dy * dy,
     }
 }
 
 // The square of the distance from a point to a segment.
+#[tactic(auto, unfolding(crate::specs::Distance::from_segment))]
 pub(crate) fn get_sq_seg_dist(p: PointI32, s: Segment) -> f64
     ensures { result ≡ from_segment p s }
 {
@@ -52,12 +54,13 @@ fn place(p: PointI32) -> PointF64
     ensures { result ≡ place_of p }
 {
     PointF64 {
-        x: p.x as f64,
-        y: p.y as f64,
+        x: f64::from(p.x),
+        y: f64::from(p.y),
     }
 }
 
 // The place of a segment that is nearest to a point. A segment of two equal points is that point.
+#[tactic(auto, unfolding(crate::specs::Distance::foot))]
 fn foot(p: PointF64, s: Segment) -> PointF64
     ensures { result ≡ foot p s }
 {
@@ -74,6 +77,7 @@ fn has_length(s: Segment) -> bool
 }
 
 // The place that lies `t` along a segment: 0 is its first end, and 1 its second. Past an end it is that end.
+#[tactic(auto, unfolding(crate::specs::Distance::nearest))]
 fn nearest(s: Segment, t: f64) -> PointF64
     ensures { result ≡ nearest s t }
 {

@@ -26,8 +26,7 @@ pub(crate) fn farthest(points: &[i32], first: usize, last: usize) -> Far
         index: first + 1,
         distance: distance_at(points, first + 1, line),
     };
-    let mut i = first + 2;
-    while i < last {
+    for i in first + 2..last {
         far = farther_of(
             far,
             Far {
@@ -35,12 +34,11 @@ pub(crate) fn farthest(points: &[i32], first: usize, last: usize) -> Far
                 distance: distance_at(points, i, line),
             },
         );
-        i += 1;
     }
     far
 }
 
-// The farther of two, the first of equals.
+// The farther of two, the first of equals. (No order of std's: a NaN is never farther.)
 fn farther_of(a: Far, b: Far) -> Far
     ensures { result ≡ farther_of a b }
 {
@@ -51,6 +49,7 @@ fn farther_of(a: Far, b: Far) -> Far
 }
 
 // The segment between the ends of a span.
+#[tactic(auto, unfolding(crate::specs::inside::Spans::line_of))]
 fn line_of(points: &[i32], first: usize, last: usize) -> Segment
     requires { (first < last) × (last < count points.now) }
     ensures { result ≡ line_of points.now first last }

@@ -15,6 +15,7 @@ mod distance;
 mod farthest;
 mod marks;
 mod numbers;
+mod passes;
 mod waiting;
 
 pub use marks::mark;

@@ -1,6 +1,6 @@
 -- What the functions over one span promise one another.
-use Rattle.std.specs.Prelude.{ℕ, ◌<◌, List, ◌≡◌, T, ℤ, Float}
-use Rattle.std.specs.Float.{binary64}
+use Rattle.std.specs.Prelude.{ℕ, ◌<◌, ◌⊎◌, List, ◌≡◌, T, ℤ, Float}
+use Rattle.std.specs.Float.{nan, binary64}
 use Rattle.std.specs.Float.Ieee.{fits}
 use Rattle.laws.specs.inside.Finite.{NonNeg}
 use Rattle.point.specs.Points.{point_at}
@@ -22,4 +22,9 @@ pub record FoundInside (points : List ℤ) (first last : ℕ) (far : Far) : Type
 -- what a point's number may be: a float of f64 with the sign +, +infinity too
 pub record Distance (x : Float) : Type 0 where
   pub nonneg : NonNeg x
+  pub fitting : T (fits binary64 x)
+
+-- what a squared distance may be: a NaN, or a float of f64 with the sign +
+pub record Square (x : Float) : Type 0 where
+  pub unsigned : (x ≡ nan) ⊎ NonNeg x
   pub fitting : T (fits binary64 x)
