@@ -2,7 +2,7 @@
 use Prim.Native.Nat.{ℕ, ◌*◌, ◌≤◌}
 use mathlib.Core.Bool.{Bool}
 use mathlib.Core.List.{List}
-use mathlib.Core.Option.{Option, some, none}
+use Rattle.std.specs.Prelude.{Option, Some, None}
 use native.Mathlib.Omega.{arith}
 use lib.Ieee.{Float}
 use lib.IntN.{ℤ}
@@ -11,12 +11,11 @@ use Rattle.laws.proofs.Determined.{Determined, same}
 use Rattle.point.specs.Refusals.{number_of, count_of}
 use Rattle.point.specs.declared.PointI32.{PointI32}
 use Rattle.chart.specs.declared.Chart.{Chart}
-use Rattle.walker.specs.Answers.{walked_number, walked_count}
 use Rattle.walker.specs.Walk.{walked}
 use Rattle.simplify.specs.Simplify.{simplify_of}
 use Rattle.reduce.specs.Numbers.{numbered_of}
 use Rattle.reduce.specs.Reduce.{reduce_of}
-use Rattle.texts.specs.Put.{Placed, put}
+use Rattle.texts.specs.Put.{Placed, put, held}
 use Rattle.words.specs.Bytes.{bytes_of}
 use Rattle.requests.specs.Frame.{Request, walk, simplify, reduce, numbers, no_frame, request_in}
 use Rattle.frames.specs.Room.{room, marks, number_room}
@@ -36,33 +35,33 @@ use Rattle.frames.proofs.line.answer.Reads.{Post as Answer}
 -- Each contract leaves no choice: of equal arguments it allows one answer, and one last content of the buffer. `Post` is the contract itself, as
 -- Rattle reads it off the source.
 
-pub put_points_determined : Determined (ℕ × ℕ × List ℤ × List ℕ × ℕ) Placed PutPoints (λ _ a. (a.0, a.1.0, a.1.1.0.now, a.1.1.1.0.now, a.1.1.1.1.0)) (λ _ r s. record { answer = r; out = s.1.1.1.0.now })
-put_points_determined = same (λ x. put (points_text x.0 x.1 x.2) x.3 x.4) (λ _ a r s p. p)
+pub put_points_determined : Determined (ℕ × ℕ × List ℤ × Placed) Placed PutPoints (λ _ a. (a.0, a.1.0, a.1.1.0.now, held a.1.1.1.0.now)) (λ _ r s. held s.1.1.1.0.now)
+put_points_determined = same (λ x. put (points_text x.0 x.1 x.2) x.3.out x.3.answer) (λ _ a r s p. p.0)
 
-pub put_numbers_determined : Determined (ℕ × ℕ × List Float × List ℕ × ℕ) Placed PutNumbers (λ _ a. (a.0, a.1.0, a.1.1.0.now, a.1.1.1.0.now, a.1.1.1.1.0)) (λ _ r s. record { answer = r; out = s.1.1.1.0.now })
-put_numbers_determined = same (λ x. put (numbers_text x.0 x.1 x.2) x.3 x.4) (λ _ a r s p. p)
+pub put_numbers_determined : Determined (ℕ × ℕ × List Float × Placed) Placed PutNumbers (λ _ a. (a.0, a.1.0, a.1.1.0.now, held a.1.1.1.0.now)) (λ _ r s. held s.1.1.1.0.now)
+put_numbers_determined = same (λ x. put (numbers_text x.0 x.1 x.2) x.3.out x.3.answer) (λ _ a r s p. p.0)
 
-pub put_walk_determined : Determined (Chart × List ℕ × PointI32 × Bool × List ℕ × ℕ) Placed PutWalk (λ _ a. (a.0, a.1.0.now, a.1.1.0, a.1.1.1.0, a.1.1.1.1.0.now, a.1.1.1.1.1.0)) (λ _ r s. record { answer = r; out = s.1.1.1.1.0.now })
-put_walk_determined = same (λ x. put (walk_reply (walked x.0 x.1 x.2 x.3 room)) x.4 x.5) (λ _ a r s p. p)
+pub put_walk_determined : Determined (Chart × List ℕ × PointI32 × Bool × Placed) Placed PutWalk (λ _ a. (a.0, a.1.0.now, a.1.1.0, a.1.1.1.0, held a.1.1.1.1.0.now)) (λ _ r s. held s.1.1.1.1.0.now)
+put_walk_determined = same (λ x. put (walk_reply (walked x.0 x.1 x.2 x.3 room)) x.4.out x.4.answer) (λ _ a r s p. p.0)
 
-pub put_simplified_determined : Determined (List ℤ × Bool × List ℕ × ℕ) Placed PutSimplified (λ _ a. (a.0.now, a.1.0, a.1.1.0.now, a.1.1.1.0)) (λ _ r s. record { answer = r; out = s.1.1.0.now })
-put_simplified_determined = same (λ x. put (simplify_reply (simplify_of x.0 x.1 room)) x.2 x.3) (λ _ a r s p. p)
+pub put_simplified_determined : Determined (List ℤ × Bool × Placed) Placed PutSimplified (λ _ a. (a.0.now, a.1.0, held a.1.1.0.now)) (λ _ r s. held s.1.1.0.now)
+put_simplified_determined = same (λ x. put (simplify_reply (simplify_of x.0 x.1 room)) x.2.out x.2.answer) (λ _ a r s p. p.0)
 
-pub put_reduced_determined : Determined (List ℤ × Float × List ℕ × ℕ) Placed PutReduced (λ _ a. (a.0.now, a.1.0, a.1.1.0.now, a.1.1.1.0)) (λ _ r s. record { answer = r; out = s.1.1.0.now })
-put_reduced_determined = same (λ x. put (reduce_reply (reduce_of x.0 x.1 room room marks)) x.2 x.3) (λ _ a r s p. p)
+pub put_reduced_determined : Determined (List ℤ × Float × Placed) Placed PutReduced (λ _ a. (a.0.now, a.1.0, held a.1.1.0.now)) (λ _ r s. held s.1.1.0.now)
+put_reduced_determined = same (λ x. put (reduce_reply (reduce_of x.0 x.1 room room marks)) x.2.out x.2.answer) (λ _ a r s p. p.0)
 
-pub put_numbered_determined : Determined (List ℤ × List ℕ × ℕ) Placed PutNumbered (λ _ a. (a.0.now, a.1.0.now, a.1.1.0)) (λ _ r s. record { answer = r; out = s.1.0.now })
-put_numbered_determined = same (λ x. put (numbers_reply (numbered_of x.0 number_room)) x.1 x.2) (λ _ a r s p. p)
+pub put_numbered_determined : Determined (List ℤ × Placed) Placed PutNumbered (λ _ a. (a.0.now, held a.1.0.now)) (λ _ r s. held s.1.0.now)
+put_numbered_determined = same (λ x. put (numbers_reply (numbered_of x.0 number_room)) x.1.out x.1.answer) (λ _ a r s p. p.0)
 
-pub answer_determined : Determined (List ℕ × List ℕ × ℕ) Placed Answer (λ _ a. (a.0.now, a.1.0.now, a.1.1.0)) (λ _ r s. record { answer = r; out = s.1.0.now })
-answer_determined = same (λ x. put (answer_to x.0) x.1 x.2) (λ _ a r s p. p)
+pub answer_determined : Determined (List ℕ × Placed) Placed Answer (λ _ a. (a.0.now, held a.1.0.now)) (λ _ r s. held s.1.0.now)
+answer_determined = same (λ x. put (answer_to x.0) x.1.out x.1.answer) (λ _ a r s p. p.0)
 
 -- ---- "Frames both ways hold at most 16,384 bytes": an answer has at most 32,768 digits.
 
 pub walk_short : (chart : Chart) (pixels : List ℕ) (start : PointI32) (cw : Bool) → length (walk_reply (walked chart pixels start cw room)) ≤ 32768
 walk_short chart pixels start cw =
     let o = walked chart pixels start cw room in
-    points_short 1 (walked_number o.answer) (walked_count o.answer * 2) o.out (walk_counts chart pixels start cw)
+    points_short 1 (number_of o.answer) (count_of o.answer * 2) o.out (walk_counts chart pixels start cw)
 
 pub simplified_short : (list : List ℤ) (cw : Bool) → length (simplify_reply (simplify_of list cw room)) ≤ 32768
 simplified_short list cw =
@@ -89,8 +88,8 @@ reply_short no_frame = omega arith
 
 bytes_short : (b : Option (List ℕ)) → length (bytes_reply b) ≤ 32768
 unfolding bytes_reply
-bytes_short none = omega arith
-bytes_short (some bytes) = reply_short (request_in bytes)
+bytes_short None = omega arith
+bytes_short (Some bytes) = reply_short (request_in bytes)
 
 pub answer_short : (line : List ℕ) → length (answer_to line) ≤ 32768
 unfolding answer_to

@@ -1,15 +1,15 @@
 -- Part of a buffer as an answer: the first values, as many as a call counted. Assumes nothing.
 use Prim.Native.Nat.{ℕ, ◌*◌, ◌-◌, ◌≤◌}
 use mathlib.Core.List.{List}
-use mathlib.Core.Path.{◌≡◌, ap, ap₂, ◌∙◌}
+use mathlib.Core.Path.{◌≡◌, sym}
 use native.Mathlib.Nat.{le_refl, le_trans, mul-le-mul}
 use native.Mathlib.Omega.{arith}
 use lib.Ieee.{Float}
 use lib.IntN.{ℤ}
 use lib.ListN.{length, take, length-take}
+use lib.Seq.{length-take-le}
 use mir.Syntax.{w64}
 use mir.Val.{Fits}
-use Rattle.texts.specs.Put.{put}
 use Rattle.frames.specs.Replies.{points_text, numbers_text}
 use Rattle.frames.proofs.Sizes.{length_points, length_numbers}
 
@@ -28,12 +28,8 @@ module _ (k : ℕ) (few : k * 2 ≤ 8190) where
   pub part_within : (values : List ℤ) (j : ℕ) → j ≤ 2 → length values ≡ 8190 → k * j ≤ length values
   part_within values j h e = omega (arith, at_most_two j h)
 
--- the number and the count as they are put
-pub numbers_part : (kind n m k l at : ℕ) (values : List Float) (out : List ℕ) → n ≡ m → k ≡ l →
-    put (numbers_text kind n (take (k - 0) values)) out at ≡ put (numbers_text kind m (take l values)) out at
-numbers_part kind n m k l at values out number count =
-    ap (λ (j : ℕ). put (numbers_text kind n (take j values)) out at) (from_start k)
-    ∙ ap₂ (λ (m l : ℕ). put (numbers_text kind m (take l values)) out at) number count
+pub part_length : {A : Type 0} (n : ℕ) (values : List A) → n ≤ length values → n ≡ length (take n values)
+part_length n values h = sym (length-take-le n values h)
 
 -- ---- "Frames both ways hold at most 16,384 bytes": an answer in its room has at most 32,768 digits.
 

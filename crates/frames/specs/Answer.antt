@@ -1,6 +1,5 @@
 -- Document 01, "Frames": what a line is answered. The library's own definitions say what each call answers.
-use Rattle.std.specs.Prelude.{ℕ, List, [], ◌∷◌, pos, Float}
-use Rattle.std.proofs.Math.Option.{Option, some, none}
+use Rattle.std.specs.Prelude.{ℕ, Option, Some, None, List, [], ◌∷◌, pos, Float}
 use Rattle.std.specs.Float.{binary64}
 use Rattle.std.specs.Float.Ieee.{of_int, div}
 use Rattle.walker.specs.Walk.{walked}
@@ -35,8 +34,8 @@ reply_to no_frame = bad_reply
 -- "empty line, odd or non-hex digits (either case is read)" are no frame
 unfoldable pub bytes_reply : Option (List ℕ) → List ℕ
 unfolding request_in reply_to
-bytes_reply none = bad_reply
-bytes_reply (some bytes) = reply_to (request_in bytes)
+bytes_reply None = bad_reply
+bytes_reply (Some bytes) = reply_to (request_in bytes)
 
 -- what a line is answered, by the bytes that its digits say
 unfoldable pub answer_to : List ℕ → List ℕ

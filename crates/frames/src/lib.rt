@@ -4,8 +4,7 @@
 // Nothing fails: what is no frame is answered so, and where an answer does not fit, nothing is written. What a
 // frame asks for is read in `requests`.
 //
-// The arrays that a call needs lie on the stack, and that of Douglas-Peucker and of the numbers grows with
-// the depth of the splits (see `split`).
+// The arrays that a call needs lie on the stack, which does not grow with the depth of the splits.
 #![tactic(auto)]
 
 mod calls;

@@ -1,95 +1,73 @@
-// An answer line, put at a place of a buffer as a whole. Each answers the place behind it; where it does
-// not fit, it writes nothing and answers the place itself.
+// An answer line, put by a pen as a whole: where it does not fit, nothing is written and the place stays.
 ghost use Rattle.std.specs.Prelude.{◌≡◌, ◌+◌, ◌*◌, ◌<◌, ◌≤◌, leb, length};
-ghost use Rattle.std.specs.Int.{w32};
-ghost use Rattle.std.proofs.Common.{of_z};
-ghost use Rattle.texts.specs.Put.{put};
-ghost use Rattle.frames.specs.Replies.{head, points_text, counted_text, numbers_text};
+ghost use Rattle.texts.specs.Put.{held, put_by};
+ghost use Rattle.point.specs.Refusals.{number_of, count_of};
+ghost use Rattle.frames.specs.Replies.{points_text, numbers_text, counted_text, head};
+
+use point::{Refusal, number};
+use texts::Pen;
 
 // How many digits stand before the values.
 const HEAD: usize = 8;
 
 // An answer of points: x, y, x, y.
-pub fn put_points(kind: u8, number: u8, values: &[i32], out: &mut [u8], at: usize) -> usize
-    ensures { record { answer = result; out = out.new }
-        ≡ put (points_text kind number values.now) out.old at }
+pub fn put_points(kind: u8, number: u8, values: &[i32], pen: &mut Pen)
+    ensures put { held pen.new ≡ put_by pen.old (points_text kind number values.now) }
+    ensures same { pen.new.out.ghost_name ≡ pen.old.out.ghost_name }
 {
-    if !fits(values.len(), 4, out.len(), at) {
-        return at;
+    if !fits(values.len(), 4, pen) {
+        return;
     }
-    let mut end = put_head(kind, number, values.len() / 2, out, at);
-    let mut i = 0;
-    while i < values.len() {
-        end = texts::put_hex(pattern(values[i]), 4, out, end);
-        i += 1;
+    put_head(kind, number, values.len() / 2, pen);
+    for value in values {
+        pen.put_hex(u64::from(value.cast_unsigned()), 4);
     }
-    end
 }
 
-// An answer of the first points of a buffer, as many as a call counted.
-pub(crate) fn put_counted(
-    kind: u8,
-    number: u8,
-    count: usize,
-    values: &[i32],
-    out: &mut [u8],
-    at: usize,
-) -> usize
-    requires { count * 2 ≤ length values.now }
-    ensures { record { answer = result; out = out.new }
-        ≡ put (counted_text kind number count values.now) out.old at }
+// An answer of the first points of a buffer, as many as a call counted; refused, of none.
+pub(crate) fn put_counted(kind: u8, answer: Result<usize, Refusal>, values: &[i32], pen: &mut Pen)
+    requires { count_of answer * 2 ≤ length values.now }
+    ensures put { held pen.new ≡ put_by pen.old (counted_text kind (number_of answer) (count_of answer) values.now) }
+    ensures same { pen.new.out.ghost_name ≡ pen.old.out.ghost_name }
 {
-    put_points(kind, number, &values[0..count * 2], out, at)
+    let count = answer.unwrap_or(0);
+    put_points(kind, number(answer), &values[..count * 2], pen);
 }
 
-// An answer of numbers.
-pub fn put_numbers(kind: u8, number: u8, values: &[f64], out: &mut [u8], at: usize) -> usize
-    ensures { record { answer = result; out = out.new }
-        ≡ put (numbers_text kind number values.now) out.old at }
+// An answer of numbers. No one function puts both: the trait that it needs, of how many digits a value has and of
+// its bits, with an `impl` for each type, is longer than these two.
+pub fn put_numbers(kind: u8, number: u8, values: &[f64], pen: &mut Pen)
+    ensures put { held pen.new ≡ put_by pen.old (numbers_text kind number values.now) }
+    ensures same { pen.new.out.ghost_name ≡ pen.old.out.ghost_name }
 {
-    if !fits(values.len(), 16, out.len(), at) {
-        return at;
+    if !fits(values.len(), 16, pen) {
+        return;
     }
-    let mut end = put_head(kind, number, values.len(), out, at);
-    let mut i = 0;
-    while i < values.len() {
-        end = texts::put_hex(bits::to_bits(values[i]), 16, out, end);
-        i += 1;
+    put_head(kind, number, values.len(), pen);
+    for value in values {
+        pen.put_hex(bits::to_bits(*value), 16);
     }
-    end
 }
 
-// The 32 bits of a value.
-fn pattern(v: i32) -> u64
-    ensures { result ≡ of_z w32 v }
-{
-    if v < 0 {
-        return 4294967295 - (-1 - v) as u64;
-    }
-    v as u64
-}
-
-// Whether the digits before `n` values, and `each` for every value, fit behind place `at` of `len`.
-fn fits(n: usize, each: usize, len: usize, at: usize) -> bool
+// Whether the digits before `n` values, and `each` for every value, fit.
+fn fits(n: usize, each: usize, pen: &Pen) -> bool
     requires { 0 < each }
-    ensures { result ≡ leb (at + (8 + n * each)) len }
+    ensures { result ≡ leb (pen.now.at + (8 + n * each)) (length pen.now.out.now) }
 {
-    if len < at {
+    if pen.out.len() < pen.at {
         return false;
     }
-    let room = len - at;
-    if room < HEAD {
-        return false;
-    }
-    n <= (room - HEAD) / each
+    let room = pen.out.len() - pen.at;
+    HEAD <= room && n <= (room - HEAD) / each
 }
 
 // The digits before the values, for which there is room.
-fn put_head(kind: u8, number: u8, count: usize, out: &mut [u8], at: usize) -> usize
-    requires { at + 8 ≤ length out.old }
-    ensures { record { answer = result; out = out.new } ≡ put (head kind number count) out.old at }
+fn put_head(kind: u8, number: u8, count: usize, pen: &mut Pen)
+    requires { pen.old.at + 8 ≤ length pen.old.out.now }
+    ensures put { held pen.new ≡ put_by pen.old (head kind number count) }
+    ensures same { pen.new.out.ghost_name ≡ pen.old.out.ghost_name }
 {
-    let behind_kind = texts::put_hex(kind as u64 + 128, 2, out, at);
-    let behind_number = texts::put_hex(number as u64, 2, out, behind_kind);
-    texts::put_hex(count as u64, 4, out, behind_number)
+    pen.put_hex(u64::from(kind) + 128, 2);
+    pen.put_hex(u64::from(number), 2);
+    pen.put_hex(count as u64, 4);
 }

@@ -11,48 +11,48 @@ use borrow.Author.Tests.{eqb-true, ltb-false, le-leb}
 use Rattle.laws.proofs.Determined.{Determined, same}
 use Rattle.laws.proofs.Joined.{both_true}
 use Rattle.laws.proofs.Lists.{take_over_all}
-use Rattle.std.specs.Prelude.{if◌then◌else◌}
+use Rattle.std.specs.Prelude.{Option, Some, None, if◌then◌else◌}
 use Rattle.chart.specs.Pixels.{row_bytes}
 use Rattle.requests.specs.Frame.{Request, walk, simplify, reduce, numbers, no_frame, word_at, values_of, clockwise, directed, chart_in, start_in, walk_in, simplify_in, reduce_in, numbers_in, kind_in, request_in}
 use Rattle.laws.specs.Outcome.{Outcome}
 use Rattle.requests.specs.Asked.{asked_of}
 use Rattle.requests.specs.declared.Asked.{Asked}
-use Rattle.requests.proofs.Points.{length_rest}
+use Rattle.requests.proofs.Values.{length_rest}
 use Rattle.requests.proofs.frame.request.Reads.{Post}
 
 -- The contract leaves no choice: of equal arguments it allows one answer, and one last content of the buffer. `Post` is the contract itself, as
 -- Rattle reads it off the source.
-pub request_determined : Determined (List ℕ × List ℤ) (Outcome Asked (List ℤ)) Post (λ _ a. (a.0.now, a.1.0.now)) (λ _ r s. record { answer = r; out = s.1.0.now })
+pub request_determined : Determined (List ℕ × List ℤ) (Outcome (Option Asked) (List ℤ)) Post (λ _ a. (a.0.now, a.1.0.now)) (λ _ r s. record { answer = r; out = s.1.0.now })
 request_determined = same (λ x. asked_of (request_in x.0) x.1) (λ _ a r s p. p)
 
 -- ---- What is handed on says what was asked for, where the buffer has room for every frame's points.
 
 -- the request that an answer says, with what the buffer holds and the bytes of the frame
-abbrev pub said : Asked → List ℤ → List ℕ → Request
-said (Asked.Walk clockwise chart start rows) to bytes = walk clockwise chart start (drop rows bytes)
-said (Asked.Simplify clockwise n) to bytes = simplify clockwise (take n to)
-said (Asked.Reduce tolerance n) to bytes = reduce tolerance (take n to)
-said (Asked.Numbers n) to bytes = numbers (take n to)
-said Asked.NoFrame to bytes = no_frame
+abbrev pub said : Option Asked → List ℤ → List ℕ → Request
+said (Some (Asked.Walk clockwise chart start rows)) to bytes = walk clockwise chart start (drop rows bytes)
+said (Some (Asked.Simplify clockwise n)) to bytes = simplify clockwise (take n to)
+said (Some (Asked.Reduce tolerance n)) to bytes = reduce tolerance (take n to)
+said (Some (Asked.Numbers n)) to bytes = numbers (take n to)
+said None to bytes = no_frame
 
 -- how many values it has in the buffer
-abbrev pub values_in : Asked → ℕ
-values_in (Asked.Walk clockwise chart start rows) = 0
-values_in (Asked.Simplify clockwise n) = n
-values_in (Asked.Reduce tolerance n) = n
-values_in (Asked.Numbers n) = n
-values_in Asked.NoFrame = 0
+abbrev pub values_in : Option Asked → ℕ
+values_in (Some (Asked.Walk clockwise chart start rows)) = 0
+values_in (Some (Asked.Simplify clockwise n)) = n
+values_in (Some (Asked.Reduce tolerance n)) = n
+values_in (Some (Asked.Numbers n)) = n
+values_in None = 0
 
 -- how many bytes of the frame stand before the rows of its chart
-abbrev pub bytes_before : Asked → ℕ
-bytes_before (Asked.Walk clockwise chart start rows) = rows
-bytes_before (Asked.Simplify clockwise n) = 0
-bytes_before (Asked.Reduce tolerance n) = 0
-bytes_before (Asked.Numbers n) = 0
-bytes_before Asked.NoFrame = 0
+abbrev pub bytes_before : Option Asked → ℕ
+bytes_before (Some (Asked.Walk clockwise chart start rows)) = rows
+bytes_before (Some (Asked.Simplify clockwise n)) = 0
+bytes_before (Some (Asked.Reduce tolerance n)) = 0
+bytes_before (Some (Asked.Numbers n)) = 0
+bytes_before None = 0
 
 -- what an answer says of a request q, of the buffer, and of the bytes
-pub record Told (bytes : List ℕ) (to : List ℤ) (q : Request) (o : Outcome Asked (List ℤ)) : Type 0 where
+pub record Told (bytes : List ℕ) (to : List ℤ) (q : Request) (o : Outcome (Option Asked) (List ℤ)) : Type 0 where
   pub asked : q ≡ said o.answer o.out bytes
   pub held : values_in o.answer ≤ length to
   pub behind : bytes_before o.answer ≤ length bytes
@@ -137,5 +137,6 @@ module _ (f : List ℕ) (to : List ℤ) where
       by true e = told_none
       by false e = told_kind room (ltb-false 16384 (length f) e) (get_or f 0 0)
 
-  pub told : 8190 ≤ length to → (o : Outcome Asked (List ℤ)) → o ≡ asked_of (request_in f) to → Told f to (request_in f) o
+  pub told : 8190 ≤ length to → (o : Outcome (Option Asked) (List ℤ)) → o ≡ asked_of (request_in f) to →
+      Told f to (request_in f) o
   told room o e = subst (Told f to (request_in f)) (sym e) (told_all room)

@@ -2,4 +2,3 @@
 pub mod Claims
 pub mod Values
 pub mod Points
-pub mod ByKind

@@ -1,57 +1,59 @@
 // Kinds 02, 03 and 04: a list of points, by how many there are and each x and y.
-ghost use Rattle.std.specs.Prelude.{◌≡◌, ◌&&◌, ◌+◌, ◌*◌, ◌≤◌, leb, eqb, length};
-ghost use Rattle.requests.specs.Frame.{word_at, simplify_in, reduce_in, numbers_in};
+ghost use Rattle.std.specs.Prelude.{◌≡◌, ◌≤◌};
+ghost use Rattle.requests.specs.Frame.{simplify_in, reduce_in, numbers_in};
 ghost use Rattle.requests.specs.Asked.{asked_of};
+ghost use Rattle.requests.specs.inside.Parts.{points_at};
 
 use crate::Asked;
 use crate::two_bytes::{decode, word};
+use crate::walking::direction;
 
 // Kind 02: direction, points.
-pub(crate) fn simplify_in(frame: &[u8], to: &mut [i32]) -> Asked
+#[tactic(auto, unfolding(crate::specs::Asked::asked_of, crate::specs::Frame::simplify_in))]
+pub(crate) fn simplify_in(frame: &[u8], to: &mut [i32]) -> Option<Asked>
     ensures { record { answer = result; out = to.new } ≡ asked_of (simplify_in frame.now) to.old }
 {
-    if !is_list(frame, 2, to.len()) {
-        return Asked::NoFrame;
-    }
-    if 1 < frame[1] {
-        return Asked::NoFrame;
-    }
-    Asked::Simplify(frame[1] == 1, decode(&frame[4..], to))
+    let clockwise = direction(frame)?;
+    let values = points_at(frame, 2, to)?;
+    Some(Asked::Simplify { clockwise, values })
 }
 
 // Kind 03: tolerance in sixteenths, points.
-pub(crate) fn reduce_in(frame: &[u8], to: &mut [i32]) -> Asked
+#[tactic(auto, unfolding(crate::specs::Asked::asked_of, crate::specs::Frame::reduce_in))]
+pub(crate) fn reduce_in(frame: &[u8], to: &mut [i32]) -> Option<Asked>
     ensures { record { answer = result; out = to.new } ≡ asked_of (reduce_in frame.now) to.old }
 {
-    if !is_list(frame, 3, to.len()) {
-        return Asked::NoFrame;
-    }
-    Asked::Reduce(word(frame, 1), decode(&frame[5..], to))
+    let values = points_at(frame, 3, to)?;
+    let tolerance = word(frame, 1);
+    Some(Asked::Reduce { tolerance, values })
 }
 
 // Kind 04: points.
-pub(crate) fn numbers_in(frame: &[u8], to: &mut [i32]) -> Asked
+#[tactic(auto, unfolding(crate::specs::Asked::asked_of, crate::specs::Frame::numbers_in))]
+pub(crate) fn numbers_in(frame: &[u8], to: &mut [i32]) -> Option<Asked>
     ensures { record { answer = result; out = to.new } ≡ asked_of (numbers_in frame.now) to.old }
 {
-    if !is_list(frame, 1, to.len()) {
-        return Asked::NoFrame;
-    }
-    Asked::Numbers(decode(&frame[3..], to))
+    let values = points_at(frame, 1, to)?;
+    Some(Asked::Numbers { values })
 }
 
-// Whether a frame is as long as its count of points, at place `k`, asks for, and there is room for the
-// values of these.
-fn is_list(frame: &[u8], k: usize, room: usize) -> bool
+// Puts the points of a frame, which stand behind their count at place `k`, at the start of `to`, and
+// answers how many values they are. Where the frame is not as long as the count asks for, or the points
+// do not fit, it writes nothing.
+#[tactic(auto, using(crate::proofs::Values::length_values))]
+fn points_at(frame: &[u8], k: usize, to: &mut [i32]) -> Option<usize>
     requires { k ≤ 3 }
-    ensures { result ≡ (eqb (length frame.now) (k + 2 + word_at frame.now k * 4)
-        && leb (word_at frame.now k * 2) room) }
+    ensures { record { answer = result; out = to.new } ≡ points_at frame.now k to.old }
 {
     if frame.len() < k + 2 {
-        return false;
+        return None;
     }
-    let count = word(frame, k) as usize;
+    let count = usize::from(word(frame, k));
     if frame.len() != k + 2 + count * 4 {
-        return false;
+        return None;
     }
-    count * 2 <= room
+    if to.len() < count * 2 {
+        return None;
+    }
+    Some(decode(&frame[k + 2..], to))
 }

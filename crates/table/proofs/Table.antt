@@ -10,12 +10,12 @@ use lib.ListN.{replicate}
 use Rattle.laws.proofs.Integers.{in_range_lem}
 use Rattle.point.specs.Limits.{bad_list, in_range}
 use Rattle.point.specs.Points.{flat}
-use Rattle.point.specs.declared.refusal.Answer.TheVariants as Answer
+use Rattle.std.specs.Prelude.{Ok, Err}
 use Rattle.point.specs.declared.PointI32.{PointI32}
 use Rattle.chart.specs.Pixels.{bad_chart, pixel_at}
 use Rattle.chart.specs.declared.Chart.{Chart}
 use Rattle.walker.specs.Walk.{walked}
-use Rattle.walker.specs.declared.Walked.TheVariants as Walked
+use Rattle.point.specs.declared.refusal.Refusal.TheVariants.{NoWay}
 use Rattle.spiral.proofs.Whole.{points_of, spiral_points}
 use Rattle.simplify.specs.Penalties.{penalty, penalties_of}
 use Rattle.simplify.specs.Simplify.{simplify_of}
@@ -71,64 +71,64 @@ zigzag = point 0 0 ∷ point 8 2 ∷ point 0 4 ∷ point 8 0 ∷ []
 -- "P1 the walk above": "five points (0,0) (1,0) (1,1) (0,1) (0,0)"
 abbrev pub P1 : Type 0
 unfolding flat
-P1 = walked pixel (128 ∷ []) (point 0 0) true (room 5) ≡ record { answer = Walked.Done 5; out = flat pixel_outline }
+P1 = walked pixel (128 ∷ []) (point 0 0) true (room 5) ≡ record { answer = Ok 5; out = flat pixel_outline }
 
 -- "P2 same chart, start (5,5): 8"
 abbrev pub P2 : Type 0
-P2 = walked pixel (128 ∷ []) (point 5 5) true (room 5) ≡ record { answer = Walked.NoWay; out = room 5 }
+P2 = walked pixel (128 ∷ []) (point 5 5) true (room 5) ≡ record { answer = Err NoWay; out = room 5 }
 
 -- "P3 the pixel's outline, `remove_staircase` counterclockwise: (0,0) (0,0). `simplify` clockwise gives the same two; the 4 by 4 square keeps all five."
 abbrev pub P3 : Type 0
 unfolding flat
-P3 = (staircase_of (flat pixel_outline) false (room 5) ≡ record { answer = Answer.Done 2; out = flat (point 0 0 ∷ point 0 0 ∷ old ∷ old ∷ old ∷ []) })
-    × (simplify_of (flat pixel_outline) true (room 5) ≡ record { answer = Answer.Done 2; out = flat (point 0 0 ∷ point 0 0 ∷ old ∷ old ∷ old ∷ []) })
-    × (simplify_of (flat square) true (room 5) ≡ record { answer = Answer.Done 5; out = flat square })
+P3 = (staircase_of (flat pixel_outline) false (room 5) ≡ record { answer = Ok 2; out = flat (point 0 0 ∷ point 0 0 ∷ old ∷ old ∷ old ∷ []) })
+    × (simplify_of (flat pixel_outline) true (room 5) ≡ record { answer = Ok 2; out = flat (point 0 0 ∷ point 0 0 ∷ old ∷ old ∷ old ∷ []) })
+    × (simplify_of (flat square) true (room 5) ≡ record { answer = Ok 5; out = flat square })
 
 -- "P4 `limit_penalties` of (7,7): twice."
 abbrev pub P4 : Type 0
 unfolding flat
-P4 = penalties_of (flat (point 7 7 ∷ [])) (room 2) ≡ record { answer = Answer.Done 2; out = flat (point 7 7 ∷ point 7 7 ∷ []) }
+P4 = penalties_of (flat (point 7 7 ∷ [])) (room 2) ≡ record { answer = Ok 2; out = flat (point 7 7 ∷ point 7 7 ∷ []) }
 
 -- "P5 of two points: the first only." Any two, p and q; a and b are what the buffer's two places held
 abbrev pub P5 : Type 0
 unfolding flat
 P5 = (p q : PointI32) → Within p → Within q → (a b : PointI32) →
-    penalties_of (flat (p ∷ q ∷ [])) (flat (a ∷ b ∷ [])) ≡ record { answer = Answer.Done 1; out = flat (p ∷ b ∷ []) }
+    penalties_of (flat (p ∷ q ∷ [])) (flat (a ∷ b ∷ [])) ≡ record { answer = Ok 1; out = flat (p ∷ b ∷ []) }
 
 -- "P6 of (0,0) (100,0) (0,0): (0,0) (0,0)."
 abbrev pub P6 : Type 0
 unfolding flat
-P6 = penalties_of (flat (point 0 0 ∷ point 100 0 ∷ point 0 0 ∷ [])) (room 3) ≡ record { answer = Answer.Done 2; out = flat (point 0 0 ∷ point 0 0 ∷ old ∷ []) }
+P6 = penalties_of (flat (point 0 0 ∷ point 100 0 ∷ point 0 0 ∷ [])) (room 3) ≡ record { answer = Ok 2; out = flat (point 0 0 ∷ point 0 0 ∷ old ∷ []) }
 
 -- "P7 radial (0,0) (3,4) (6,8): at 25 drops the middle."
 abbrev pub P7 : Type 0
 unfolding flat
-P7 = radial_of (flat (point 0 0 ∷ point 3 4 ∷ point 6 8 ∷ [])) (whole 25) (room 3) ≡ record { answer = Answer.Done 2; out = flat (point 0 0 ∷ point 6 8 ∷ old ∷ []) }
+P7 = radial_of (flat (point 0 0 ∷ point 3 4 ∷ point 6 8 ∷ [])) (whole 25) (room 3) ≡ record { answer = Ok 2; out = flat (point 0 0 ∷ point 6 8 ∷ old ∷ []) }
 
 -- "P8 at 24 keeps it."
 abbrev pub P8 : Type 0
 unfolding flat
-P8 = radial_of (flat (point 0 0 ∷ point 3 4 ∷ point 6 8 ∷ [])) (whole 24) (room 3) ≡ record { answer = Answer.Done 3; out = flat (point 0 0 ∷ point 3 4 ∷ point 6 8 ∷ []) }
+P8 = radial_of (flat (point 0 0 ∷ point 3 4 ∷ point 6 8 ∷ [])) (whole 24) (room 3) ≡ record { answer = Ok 3; out = flat (point 0 0 ∷ point 3 4 ∷ point 6 8 ∷ []) }
 
 -- "P9 numbers of (0,0) (8,2) (0,4) (8,0): infinity, 16, 16, infinity."
 abbrev pub P9 : Type 0
 unfolding flat
-P9 = numbered_of (flat zigzag) (number_room 4) ≡ record { answer = Answer.Done 4; out = inf false ∷ whole 16 ∷ whole 16 ∷ inf false ∷ [] }
+P9 = numbered_of (flat zigzag) (number_room 4) ≡ record { answer = Ok 4; out = inf false ∷ whole 16 ∷ whole 16 ∷ inf false ∷ [] }
 
 -- "P10 reduced at 16: ends only; at 15: all."
 abbrev pub P10 : Type 0
 unfolding flat
 P10 = (douglas_peucker_of (flat zigzag) (whole 16) (room 4) (mark_room 4)
-    ≡ record { answer = Answer.Done 2; out = (flat (point 0 0 ∷ point 8 0 ∷ old ∷ old ∷ []), 1 ∷ 0 ∷ 0 ∷ 1 ∷ []) })
+    ≡ record { answer = Ok 2; out = (flat (point 0 0 ∷ point 8 0 ∷ old ∷ old ∷ []), 1 ∷ 0 ∷ 0 ∷ 1 ∷ []) })
     × (douglas_peucker_of (flat zigzag) (whole 15) (room 4) (mark_room 4)
-    ≡ record { answer = Answer.Done 4; out = (flat zigzag, 1 ∷ 1 ∷ 1 ∷ 1 ∷ []) })
+    ≡ record { answer = Ok 4; out = (flat zigzag, 1 ∷ 1 ∷ 1 ∷ 1 ∷ []) })
 
 -- "P11 `reduce` of the pixel's outline, tolerance 3: (0,0) (0,0). Douglas-Peucker of one point gives it twice."
 abbrev pub P11 : Type 0
 unfolding flat
 P11 = (reduce_of (flat pixel_outline) (whole 3) (room 5) (room 5) (mark_room 5)
     ≡ record {
-      answer = Answer.Done 2;
+      answer = Ok 2;
       out = (
         flat (point 0 0 ∷ point 0 0 ∷ old ∷ old ∷ old ∷ []),
         flat (point 0 0 ∷ old ∷ old ∷ old ∷ old ∷ []),
@@ -136,7 +136,7 @@ P11 = (reduce_of (flat pixel_outline) (whole 3) (room 5) (room 5) (mark_room 5)
       );
     })
     × (douglas_peucker_of (flat (point 7 8 ∷ [])) (whole 0) (room 2) (mark_room 1)
-    ≡ record { answer = Answer.Done 2; out = (flat (point 7 8 ∷ point 7 8 ∷ []), 1 ∷ []) })
+    ≡ record { answer = Ok 2; out = (flat (point 7 8 ∷ point 7 8 ∷ []), 1 ∷ []) })
 
 -- "P12 spiral 2: (0,0) (1,0) (1,1) (0,1)."
 abbrev pub P12 : Type 0

@@ -17,9 +17,9 @@ use Rattle.texts.specs.Put.{Placed, put}
 use Rattle.requests.specs.Frame.{Request, request_in}
 use Rattle.requests.specs.Asked.{asked_of}
 use Rattle.requests.specs.declared.Asked.{Asked}
+use Rattle.std.specs.Prelude.{Option, Some, None}
 use Rattle.requests.proofs.Points.{rest_is}
 use Rattle.requests.proofs.Claims.{said, values_in, bytes_before, Told, told}
-use Rattle.frames.proofs.Parts.{from_start}
 use Rattle.frames.specs.Room.{room, marks, number_room}
 use Rattle.frames.specs.Calls.{walk_reply, simplify_reply, reduce_reply, numbers_reply}
 use Rattle.frames.specs.Answer.{bad_reply, reply_to}
@@ -29,69 +29,64 @@ sixteen_is : of_bits binary64 0x4030000000000000 ≡ of_int binary64 (pos 16)
 unfolding of_bits of_int
 sixteen_is = refl
 
-module _ (f : List ℕ) (a : Asked) (to : List ℤ) (is : record { answer = a; out = to } ≡ asked_of (request_in f) (replicate 8190 (pos 0))) where
+module _ (f : List ℕ) (a : Option Asked) (to : List ℤ) (is : record { answer = a; out = to } ≡ asked_of (request_in f) (replicate 8190 (pos 0))) where
   all_told : Told f (replicate 8190 (pos 0)) (request_in f) (record { answer = a; out = to })
   all_told = told f (replicate 8190 (pos 0)) (omega (arith, length-replicate 8190 (pos 0))) (record { answer = a; out = to }) is
 
   -- an answer put for what was asked for
-  asked : (b : Asked) (o : Placed) (out : List ℕ) (at : ℕ) → a ≡ b → o ≡ put (reply_to (said b to f)) out at → o ≡ put (reply_to (request_in f)) out at
+  asked : (b : Option Asked) (o : Placed) (out : List ℕ) (at : ℕ) → a ≡ b → o ≡ put (reply_to (said b to f)) out at → o ≡ put (reply_to (request_in f)) out at
   asked b o out at e p =
-      p ∙ ap (λ (q : Request). put (reply_to q) out at) (sym (all_told.asked ∙ ap (λ (b : Asked). said b to f) e))
+      p ∙ ap (λ (q : Request). put (reply_to q) out at) (sym (all_told.asked ∙ ap (λ (b : Option Asked). said b to f) e))
 
-  few : (b : Asked) → a ≡ b → length to ≡ 8190 → values_in b ≤ length to
+  -- its points stand in the buffer
+  few : (b : Option Asked) → a ≡ b → length to ≡ 8190 → values_in b ≤ length to
   few b e l = omega (arith, all_told.held, length-replicate 8190 (pos 0), ap values_in e)
 
   -- ---- kind 01
 
-  module _ (cw : Bool) (chart : Chart) (start : PointI32) (rows : ℕ) (e : a ≡ Asked.Walk cw chart start rows) where
+  module _ (cw : Bool) (chart : Chart) (start : PointI32) (rows : ℕ) (v : Asked) (is_some : a ≡ Some v) (w : v ≡ Asked.Walk cw chart start rows) where
     pub rows_begin : rows ≤ length f
-    rows_begin = omega (arith, all_told.behind, ap bytes_before e)
+    rows_begin = omega (arith, all_told.behind, ap bytes_before (is_some ∙ ap Some w))
 
     pub a_walk : (o : Placed) (out : List ℕ) (at : ℕ) → o ≡ put (walk_reply (walked chart (take (length f - rows) (drop rows f)) start cw room)) out at →
         o ≡ put (reply_to (request_in f)) out at
     a_walk o out at p =
-        asked (Asked.Walk cw chart start rows) o out at e
+        asked (Some (Asked.Walk cw chart start rows)) o out at (is_some ∙ ap Some w)
         (unfold reply_to in p ∙ ap (λ (bytes : List ℕ). put (walk_reply (walked chart bytes start cw room)) out at) (rest_is f rows))
 
   -- ---- kind 02
 
-  module _ (cw : Bool) (n : ℕ) (e : a ≡ Asked.Simplify cw n) where
+  module _ (cw : Bool) (n : ℕ) (v : Asked) (is_some : a ≡ Some v) (w : v ≡ Asked.Simplify cw n) where
     pub simplify_few : length to ≡ 8190 → n ≤ length to
-    simplify_few l = few (Asked.Simplify cw n) e l
+    simplify_few l = few (Some (Asked.Simplify cw n)) (is_some ∙ ap Some w) l
 
-    pub a_simplify : (o : Placed) (out : List ℕ) (at : ℕ) → o ≡ put (simplify_reply (simplify_of (take (n - 0) to) cw room)) out at →
+    pub a_simplify : (o : Placed) (out : List ℕ) (at : ℕ) → o ≡ put (simplify_reply (simplify_of (take n to) cw room)) out at →
         o ≡ put (reply_to (request_in f)) out at
-    a_simplify o out at p =
-        asked (Asked.Simplify cw n) o out at e
-        (unfold reply_to in p ∙ ap (λ (k : ℕ). put (simplify_reply (simplify_of (take k to) cw room)) out at) (from_start n))
+    a_simplify o out at p = asked (Some (Asked.Simplify cw n)) o out at (is_some ∙ ap Some w) (unfold reply_to in p)
 
   -- ---- kind 03
 
-  module _ (t n : ℕ) (e : a ≡ Asked.Reduce t n) where
+  module _ (t n : ℕ) (v : Asked) (is_some : a ≡ Some v) (w : v ≡ Asked.Reduce t n) where
     pub reduce_few : length to ≡ 8190 → n ≤ length to
-    reduce_few l = few (Asked.Reduce t n) e l
+    reduce_few l = few (Some (Asked.Reduce t n)) (is_some ∙ ap Some w) l
 
-    pub a_reduce : (o : Placed) (out : List ℕ) (at : ℕ) →
-        o ≡ put (reduce_reply (reduce_of (take (n - 0) to) (div binary64 (of_int binary64 (pos t)) (of_bits binary64 0x4030000000000000)) room room marks)) out at →
+    pub a_reduce : (o : Placed) (out : List ℕ) (at : ℕ) (s : Float) → s ≡ of_int binary64 (pos t) →
+        o ≡ put (reduce_reply (reduce_of (take n to) (div binary64 s (of_bits binary64 0x4030000000000000)) room room marks)) out at →
         o ≡ put (reply_to (request_in f)) out at
-    a_reduce o out at p =
-        asked (Asked.Reduce t n) o out at e
+    a_reduce o out at s f p =
+        asked (Some (Asked.Reduce t n)) o out at (is_some ∙ ap Some w)
         (unfold reply_to in
-        p
-        ∙ ap₂ (λ (k : ℕ) (s : Float). put (reduce_reply (reduce_of (take k to) (div binary64 (of_int binary64 (pos t)) s) room room marks)) out at)
-        (from_start n) sixteen_is)
+        p ∙ ap₂ (λ (s d : Float). put (reduce_reply (reduce_of (take n to) (div binary64 s d) room room marks)) out at) f sixteen_is)
 
   -- ---- kind 04
 
-  module _ (n : ℕ) (e : a ≡ Asked.Numbers n) where
+  module _ (n : ℕ) (v : Asked) (is_some : a ≡ Some v) (w : v ≡ Asked.Numbers n) where
     pub numbers_few : length to ≡ 8190 → n ≤ length to
-    numbers_few l = few (Asked.Numbers n) e l
+    numbers_few l = few (Some (Asked.Numbers n)) (is_some ∙ ap Some w) l
 
-    pub a_numbers : (o : Placed) (out : List ℕ) (at : ℕ) → o ≡ put (numbers_reply (numbered_of (take (n - 0) to) number_room)) out at →
+    pub a_numbers : (o : Placed) (out : List ℕ) (at : ℕ) → o ≡ put (numbers_reply (numbered_of (take n to) number_room)) out at →
         o ≡ put (reply_to (request_in f)) out at
-    a_numbers o out at p =
-        asked (Asked.Numbers n) o out at e
-        (unfold reply_to in p ∙ ap (λ (k : ℕ). put (numbers_reply (numbered_of (take k to) number_room)) out at) (from_start n))
+    a_numbers o out at p = asked (Some (Asked.Numbers n)) o out at (is_some ∙ ap Some w) (unfold reply_to in p)
 
-  pub no_frame_is : (o : Placed) (out : List ℕ) (at : ℕ) → a ≡ Asked.NoFrame → o ≡ put bad_reply out at → o ≡ put (reply_to (request_in f)) out at
-  no_frame_is o out at e p = asked Asked.NoFrame o out at e (unfold reply_to in p)
+  pub no_frame_is : (o : Placed) (out : List ℕ) (at : ℕ) → a ≡ None → o ≡ put bad_reply out at → o ≡ put (reply_to (request_in f)) out at
+  no_frame_is o out at e p = asked None o out at e (unfold reply_to in p)
