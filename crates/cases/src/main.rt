@@ -21,11 +21,12 @@ mod split_cases;
 mod sqrt_cases;
 mod util_cases;
 mod walker_cases;
-mod wide;
 
 use lines::Turn;
+use putting::Answer;
 use std::io::{Read, Write};
 use std::rt::HostRuntime;
+use texts::Pen;
 
 // The longest line, of a zoom of 16,384 values of up to 12 bytes and as many numbers of 17, has less than 480,000 bytes.
 const INPUT: usize = 1048576;
@@ -48,12 +49,10 @@ fn run(rt: &HostRuntime, input: &mut [u8; INPUT], output: &mut [u8; OUTPUT]) {
 }
 
 // Answers each line. A proved loop has to end, and nothing says that an input does: so it counts its
-// turns down, from a number that no run uses up.
+// turns, up to a number that no run uses up.
 fn answer_all(rt: &HostRuntime, input: &mut [u8], output: &mut [u8]) {
     let mut state = lines::begin();
-    let mut turns = u64::MAX;
-    while 0 < turns {
-        turns -= 1;
+    for _ in 0..u64::MAX {
         match lines::next(state, FULL, input) {
             Turn::Line { from, to, next } => {
                 let end = answer(&input[from..to], output, next.waiting);
@@ -66,7 +65,7 @@ fn answer_all(rt: &HostRuntime, input: &mut [u8], output: &mut [u8]) {
                 state = next;
             }
             Turn::Read { at, next } => {
-                let Got::Bytes(n) = read(rt, &mut input[at..]) else {
+                let Some(n) = read(rt, &mut input[at..]) else {
                     return;
                 };
                 state = lines::fed(next, n);
@@ -78,49 +77,37 @@ fn answer_all(rt: &HostRuntime, input: &mut [u8], output: &mut [u8]) {
     }
 }
 
-// Puts the answer to a line at a place of `out`, and answers the place behind it. The first word of a line names the call:
-// the subject that has it puts the answer, and every other puts nothing.
+// Puts the answer to a line at a place of `out`, and answers the place behind it: the pen is made here, of the program's
+// own buffer. The first word of a line names the call: the subject that has it puts the answer, and every other puts
+// nothing.
 fn answer(line: &[u8], out: &mut [u8], at: usize) -> usize {
-    let mut end = of_numbers(line, out, at);
-    end = of_charts(line, out, end);
-    end = of_outlines(line, out, end);
-    putting::end_line(out, at, end)
+    let mut answer = Answer {
+        pen: Pen { out, at },
+    };
+    sqrt_cases::answer(line, &mut answer);
+    point_cases::answer(line, &mut answer);
+    util_cases::answer(line, &mut answer);
+    chart_cases::answer(line, &mut answer);
+    walker_cases::answer(line, &mut answer);
+    spiral_cases::answer(line, &mut answer);
+    pbm_cases::answer(line, &mut answer);
+    split_cases::answer(line, &mut answer);
+    reduce_cases::answer(line, &mut answer);
+    areas_cases::answer(line, &mut answer);
+    simplify_cases::answer(line, &mut answer);
+    smooth_cases::answer(line, &mut answer);
+    answer.end_line(at);
+    answer.pen.at
 }
 
-fn of_numbers(line: &[u8], out: &mut [u8], at: usize) -> usize {
-    let mut end = sqrt_cases::answer(line, out, at);
-    end = point_cases::answer(line, out, end);
-    util_cases::answer(line, out, end)
-}
-
-fn of_charts(line: &[u8], out: &mut [u8], at: usize) -> usize {
-    let mut end = chart_cases::answer(line, out, at);
-    end = walker_cases::answer(line, out, end);
-    end = spiral_cases::answer(line, out, end);
-    pbm_cases::answer(line, out, end)
-}
-
-fn of_outlines(line: &[u8], out: &mut [u8], at: usize) -> usize {
-    let mut end = split_cases::answer(line, out, at);
-    end = reduce_cases::answer(line, out, end);
-    end = areas_cases::answer(line, out, end);
-    end = simplify_cases::answer(line, out, end);
-    smooth_cases::answer(line, out, end)
-}
-
-// How many bytes came, none at the end of the input; or that it cannot be read.
-#[derive(Clone, Copy)]
-pub enum Got {
-    Bytes(usize),
-    Failed,
-}
-
-fn read(rt: &HostRuntime, part: &mut [u8]) -> Got {
+// How many bytes came, none at the end of the input. Where it cannot be read, that is told. (Each program has its own
+// reading and telling, a few lines: a crate for them would be no plainer.)
+fn read(rt: &HostRuntime, part: &mut [u8]) -> Option<usize> {
     match rt.stdin().read(part) {
-        Ok(n) => Got::Bytes(n),
+        Ok(n) => Some(n),
         Err(_) => {
             tell(rt, b"cases: the input cannot be read\n");
-            Got::Failed
+            None
         }
     }
 }

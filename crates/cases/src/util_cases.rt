@@ -1,42 +1,47 @@
 // `signed_area X1 Y1 X2 Y2 X3 Y3` and `norm_i32 X Y` of whole numbers, `norm`, `mid_point` and `intersection` of doubles,
 // two for each point, and `ratios` of the two of a crossing. The answer is the number of the refusal, or 0 and what was
 // worked out.
-use crate::forms::case_of;
-use crate::putting::{put_choice, put_double, put_integer, put_natural, put_word};
-use crate::reading::{place_at, point_at};
-use point::PointF64;
-use util::{Intersection, Measure, MidPoint, Signed};
+use crate::forms::{call, is_case};
+use crate::putting::Answer;
+use crate::reading::two_at;
+use point::{PointF64, PointI32, Refusal};
+use util::{Intersection, Vector};
 
-// Puts the answer to a case of points and lines at a place of `out`, and answers the place behind it.
-pub fn answer(line: &[u8], out: &mut [u8], at: usize) -> usize {
-    match case_of(
-        line,
-        b"signed_area iiiiii norm_i32 ii norm dd mid_point dddd intersection dddddddd ratios dd",
-    ) {
-        0 => put_area(signed_area(line), out, at),
-        1 => put_length(util::norm_i32(point_at(line, 1)), out, at),
-        2 => put_length(util::norm(place_at(line, 1)), out, at),
-        3 => put_middle(mid_point(line), out, at),
-        4 => put_crossing(intersection(line), out, at),
-        5 => put_says(ratios(place_at(line, 1)), out, at),
-        _ => at,
+// Puts the answer to a case of points and lines.
+pub fn answer(line: &[u8], out: &mut Answer) {
+    match call(line) {
+        b"signed_area" if is_case(line, b"iiiiii") => signed_area(line, out),
+        b"norm_i32" if is_case(line, b"ii") => put_length(two_at::<PointI32>(line, 1).norm(), out),
+        b"norm" if is_case(line, b"dd") => put_length(two_at::<PointF64>(line, 1).norm(), out),
+        b"mid_point" if is_case(line, b"dddd") => mid_point(line, out),
+        b"intersection" if is_case(line, b"dddddddd") => put_crossing(intersection(line), out),
+        b"ratios" if is_case(line, b"dd") => put_says(ratios(two_at(line, 1)), out),
+        _ => {}
     }
 }
 
-fn signed_area(line: &[u8]) -> Signed {
-    util::signed_area(point_at(line, 1), point_at(line, 3), point_at(line, 5))
+fn signed_area(line: &[u8], out: &mut Answer) {
+    let answer = util::signed_area(two_at(line, 1), two_at(line, 3), two_at(line, 5));
+    out.number(answer);
+    if let Ok(area) = answer {
+        out.value(area);
+    }
 }
 
-fn mid_point(line: &[u8]) -> MidPoint {
-    util::find_mid_point(place_at(line, 1), place_at(line, 3))
+fn mid_point(line: &[u8], out: &mut Answer) {
+    let answer = util::find_mid_point(two_at(line, 1), two_at(line, 3));
+    out.number(answer);
+    if let Ok(p) = answer {
+        put_pair(p, out);
+    }
 }
 
 fn intersection(line: &[u8]) -> Intersection {
     util::find_intersection(
-        place_at(line, 1),
-        place_at(line, 3),
-        place_at(line, 5),
-        place_at(line, 7),
+        two_at(line, 1),
+        two_at(line, 3),
+        two_at(line, 5),
+        two_at(line, 7),
     )
 }
 
@@ -45,65 +50,40 @@ fn ratios(p: PointF64) -> Intersection {
     Intersection::Cross(p, p.x, p.y)
 }
 
-fn put_area(answer: Signed, out: &mut [u8], at: usize) -> usize {
-    let end = put_natural(answer.number() as u64, out, at);
-    let Signed::Area(area) = answer else {
-        return end;
-    };
-    put_integer(area, out, end)
-}
-
-fn put_length(answer: Measure, out: &mut [u8], at: usize) -> usize {
-    let end = put_natural(answer.number() as u64, out, at);
-    let Measure::Is(length) = answer else {
-        return end;
-    };
-    put_double(length, out, end)
-}
-
-fn put_middle(answer: MidPoint, out: &mut [u8], at: usize) -> usize {
-    let end = put_natural(answer.number() as u64, out, at);
-    let MidPoint::At(p) = answer else {
-        return end;
-    };
-    put_pair(p, out, end)
+fn put_length(answer: Result<f64, Refusal>, out: &mut Answer) {
+    out.number(answer);
+    if let Ok(length) = answer {
+        out.value(length);
+    }
 }
 
 // A crossing: its number, what it carries, and what it says of itself; refused, its number alone.
-fn put_crossing(answer: Intersection, out: &mut [u8], at: usize) -> usize {
-    let end = put_natural(answer.number() as u64, out, at);
-    if let Intersection::Refused(_) = answer {
-        return end;
-    }
-    let behind = put_carried(answer, out, end);
-    put_says(answer, out, behind)
-}
-
-fn put_carried(answer: Intersection, out: &mut [u8], at: usize) -> usize {
+fn put_crossing(answer: Intersection, out: &mut Answer) {
+    out.value(usize::from(answer.number()));
     match answer {
-        Intersection::Parallel => put_word(b"parallel", out, at),
-        Intersection::Coincide(p) => put_named(b"coincide", p, out, at),
-        Intersection::Cross(p, mua, mub) => {
-            let end = put_named(b"cross", p, out, at);
-            put_pair(PointF64 { x: mua, y: mub }, out, end)
+        Intersection::Parallel => out.word(b"parallel"),
+        Intersection::Coincide(p) => {
+            out.word(b"coincide");
+            put_pair(p, out);
         }
-        Intersection::Refused(_) => at,
+        Intersection::Cross(p, mua, mub) => {
+            out.word(b"cross");
+            put_pair(p, out);
+            put_pair(PointF64 { x: mua, y: mub }, out);
+        }
+        Intersection::Refused(_) => return,
     }
-}
-
-fn put_named(word: &[u8], p: PointF64, out: &mut [u8], at: usize) -> usize {
-    let end = put_word(word, out, at);
-    put_pair(p, out, end)
+    put_says(answer, out);
 }
 
 // Whether a crossing lies outside, inside, and whether the lines are one.
-fn put_says(answer: Intersection, out: &mut [u8], at: usize) -> usize {
-    let mut end = put_choice(answer.outside(), out, at);
-    end = put_choice(answer.inside(), out, end);
-    put_choice(answer.coincide(), out, end)
+fn put_says(answer: Intersection, out: &mut Answer) {
+    out.value(answer.outside());
+    out.value(answer.inside());
+    out.value(answer.coincide());
 }
 
-fn put_pair(p: PointF64, out: &mut [u8], at: usize) -> usize {
-    let end = put_double(p.x, out, at);
-    put_double(p.y, out, end)
+fn put_pair(p: PointF64, out: &mut Answer) {
+    out.value(p.x);
+    out.value(p.y);
 }

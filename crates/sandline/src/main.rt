@@ -21,30 +21,24 @@ fn main(rt: HostRuntime) {
 }
 
 // Answers each line. A proved loop has to end, and nothing says that an input does: so it counts its
-// turns down, from a number that no run uses up.
+// turns, up to a number that no run uses up.
 fn answer_all(rt: &HostRuntime, input: &mut [u8], output: &mut [u8])
     requires { 36864 ≤ length output.old }
 {
     let mut state = lines::begin();
-    let mut turns = u64::MAX;
-    while 0 < turns {
-        turns -= 1;
+    for _ in 0..u64::MAX {
         match step(state, input, output) {
-            Turn::Line {
-                from: _,
-                to: _,
-                next,
-            } => {
+            Turn::Line { next, .. } => {
                 state = next;
             }
             Turn::Write { bytes, next } => {
-                if !write(rt, &output[0..bytes]) {
+                if !write(rt, &output[..bytes]) {
                     return;
                 }
                 state = next;
             }
             Turn::Read { at, next } => {
-                let Got::Bytes(n) = read(rt, &mut input[at..]) else {
+                let Some(n) = read(rt, &mut input[at..]) else {
                     return;
                 };
                 state = lines::fed(next, n);
@@ -56,19 +50,14 @@ fn answer_all(rt: &HostRuntime, input: &mut [u8], output: &mut [u8])
     }
 }
 
-// How many bytes came, none at the end of the input; or that it cannot be read.
-#[derive(Clone, Copy)]
-pub enum Got {
-    Bytes(usize),
-    Failed,
-}
-
-fn read(rt: &HostRuntime, part: &mut [u8]) -> Got {
+// How many bytes came, none at the end of the input. Where it cannot be read, that is told. (Each program has its own
+// reading and telling, a few lines: a crate for them would be no plainer.)
+fn read(rt: &HostRuntime, part: &mut [u8]) -> Option<usize> {
     match rt.stdin().read(part) {
-        Ok(n) => Got::Bytes(n),
+        Ok(n) => Some(n),
         Err(_) => {
             tell(rt, b"sandline: the input cannot be read\n");
-            Got::Failed
+            None
         }
     }
 }

@@ -1,11 +1,12 @@
 // One turn of the program: what is to be done next and, where that is a line, its answer put behind what
 // waits.
 ghost use Rattle.std.specs.Prelude.{◌≡◌, ◌+◌, ◌≤◌, length};
-ghost use Rattle.texts.specs.Put.{put};
+ghost use Rattle.texts.specs.Put.{held, put_by};
 ghost use Rattle.lines.specs.Turns.{line, step_of};
 ghost use Rattle.frames.specs.Answer.{answer_to};
 
 use lines::{State, Turn};
+use texts::Pen;
 
 // An answer has at most 32,768 digits, and its newline: the longest fits an output of 36,864 bytes behind
 // so many.
@@ -19,22 +20,26 @@ pub fn step(s: State, input: &mut [u8], output: &mut [u8]) -> Turn
 {
     let turn = lines::next(s, MOST, input);
     if let Turn::Line { from, to, next } = turn {
-        let end = put_line(&input[from..to], output, next.waiting);
+        let mut pen = Pen {
+            out: output,
+            at: next.waiting,
+        };
+        put_line(&input[from..to], &mut pen);
         return Turn::Line {
-            from: from,
-            to: to,
-            next: lines::answered(next, end),
+            from,
+            to,
+            next: lines::answered(next, pen.at),
         };
     }
     turn
 }
 
-// Puts the answer to a line and a newline at a place of the output, and answers the place behind them.
-fn put_line(text: &[u8], output: &mut [u8], at: usize) -> usize
-    requires { at + 32769 ≤ length output.old }
-    ensures { record { answer = result; out = output.new }
-        ≡ put (line (answer_to text.now)) output.old at }
+// Puts the answer to a line, and a newline.
+fn put_line(text: &[u8], pen: &mut Pen)
+    requires { pen.old.at + 32769 ≤ length pen.old.out.now }
+    ensures put { held pen.new ≡ put_by pen.old (line (answer_to text.now)) }
+    ensures same { pen.new.out.ghost_name ≡ pen.old.out.ghost_name }
 {
-    let end = frames::answer(text, output, at);
-    texts::put_byte(b'\n', output, end)
+    frames::answer(text, pen);
+    pen.put_byte(b'\n');
 }

@@ -42,7 +42,7 @@ use Rattle.sqrt.specs.Root.{root_of}
 use Rattle.texts.specs.Put.{put, Placed}
 use Rattle.util.specs.Area.{signed_area_of}
 use Rattle.walker.specs.Walk.{walked}
-use Rattle.sandline_c.specs.Handed.{answer_for_c, counted_for_c, walk_for_c, picture_for_c, round_for_c, start_for_c, area_for_c, signed_area_for_c, mid_point_for_c, length_for_c, crossing_for_c, spiral_for_c, advance_for_c}
+use Rattle.sandline_c.specs.Handed.{answer_for_c, counted_for_c, picture_for_c, round_for_c, start_for_c, area_for_c, signed_area_for_c, mid_point_for_c, length_for_c, crossing_for_c, spiral_for_c, advance_for_c}
 use Rattle.sandline_c.specs.Read.{chart_from, point_from, point_f64_from, point_f64_at, pair_from, settings_from, crossing_from}
 use Rattle.sandline_c.proofs.sqrt_c.sandline_sqrt.Reads.{Post as Sqrt}
 use Rattle.sandline_c.proofs.sqrt_c.sandline_sqrt_bits.Reads.{Post as SqrtBits}
@@ -119,7 +119,7 @@ pub first_start_determined : Determined (ℕ × ℕ × List ℕ × List ℤ) (Ou
 first_start_determined = same (λ x. start_for_c (first_start (chart_from x.0 x.1) x.2) x.3) (λ _ a r s p. p)
 
 pub walk_determined : Determined (ℕ × ℕ × List ℕ × ℤ × ℤ × Bool × List ℤ) (Outcome ℕ (List ℤ × List ℕ)) Walk (λ _ a. (a.0, a.1.0, a.1.1.0.now, a.1.1.1.0, a.1.1.1.1.0, a.1.1.1.1.1.0, a.1.1.1.1.1.1.0.now)) (λ _ r s. record { answer = r; out = (s.1.1.1.1.1.1.0.now, s.1.1.1.1.1.1.1.0.now) })
-walk_determined = same (λ x. walk_for_c (walked (chart_from x.0 x.1) x.2 (point_from x.3 x.4) x.5 x.6)) (λ _ a r s p. p)
+walk_determined = same (λ x. answer_for_c (walked (chart_from x.0 x.1) x.2 (point_from x.3 x.4) x.5 x.6)) (λ _ a r s p. p)
 
 pub answer_determined : Determined (List ℕ × List ℕ × ℕ) Placed Answer (λ _ a. (a.0.now, a.1.0.now, a.1.1.0)) (λ _ r s. record { answer = r; out = s.1.0.now })
 answer_determined = same (λ x. put (answer_to x.0) x.1 x.2) (λ _ a r s p. p)

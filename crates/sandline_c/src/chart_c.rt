@@ -6,18 +6,15 @@ ghost use Rattle.chart.specs.Start.{first_start};
 ghost use Rattle.sandline_c.specs.Handed.{start_for_c, area_for_c};
 ghost use Rattle.sandline_c.specs.Read.{chart_from};
 
-use chart::{Chart, Start};
+use crate::handing::hand;
+use chart::Chart;
 
 // Whether a pixel of a chart is set; none is outside of it.
 #[unsafe(no_mangle)]
 pub extern "C" fn sandline_pixel(width: usize, height: usize, pixels: &[u8], x: i32, y: i32) -> bool
     ensures { result ≡ pixel_at (chart_from width height) pixels.now x y }
 {
-    let chart = Chart {
-        width: width,
-        height: height,
-    };
-    chart::pixel(chart, pixels, x, y)
+    chart::pixel(Chart { width, height }, pixels, x, y)
 }
 
 // How many pixels of a chart are set.
@@ -30,13 +27,7 @@ pub extern "C" fn sandline_area(
 ) -> u8
     ensures { record { answer = result; out = count.new } ≡ area_for_c (area_of (chart_from width height) pixels.now) }
 {
-    let chart = Chart {
-        width: width,
-        height: height,
-    };
-    let cells = chart::area(chart, pixels);
-    *count = [cells.count()];
-    cells.number()
+    hand(chart::area(Chart { width, height }, pixels), count)
 }
 
 // Where a walk of a chart may begin: x and y.
@@ -50,16 +41,11 @@ pub extern "C" fn sandline_first_start(
     ensures { record { answer = result; out = start.new }
         ≡ start_for_c (first_start (chart_from width height) pixels.now) start.old }
 {
-    let chart = Chart {
-        width: width,
-        height: height,
-    };
-    match chart::first_start(chart, pixels) {
-        Start::At(p) => {
+    match chart::first_start(Chart { width, height }, pixels) {
+        Ok(p) => {
             *start = [p.x, p.y];
             0
         }
-        Start::NoWay => 8,
-        Start::Refused(refusal) => refusal.number(),
+        Err(refusal) => refusal.number(),
     }
 }

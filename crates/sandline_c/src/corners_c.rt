@@ -21,7 +21,7 @@ pub extern "C" fn sandline_find_corners(
         ≡ answer_for_c (find_corners_of points.now (pair_from c s) closed flags.old) }
 {
     hand(
-        corners::find_corners(points, Pair { c: c, s: s }, closed, flags),
+        corners::find_corners(points, Pair { c, s }, closed, flags),
         count,
     )
 }

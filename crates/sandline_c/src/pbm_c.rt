@@ -7,7 +7,6 @@ ghost use Rattle.sandline_c.specs.Read.{chart_from};
 
 use crate::handing::hand;
 use chart::Chart;
-use pbm::Picture;
 
 // The chart of the picture at the start of a file, plain or raw: its pixels, its sizes, and how many bytes
 // of the file the image took.
@@ -23,13 +22,13 @@ pub extern "C" fn sandline_read_pbm(
         ≡ picture_for_c (read_of file.now pixels.old) width.old height.old }
 {
     match pbm::read_pbm(file, pixels) {
-        Picture::Read { chart, bytes } => {
-            *width = [chart.width];
-            *height = [chart.height];
-            *count = [bytes];
+        Ok(picture) => {
+            *width = [picture.chart.width];
+            *height = [picture.chart.height];
+            *count = [picture.bytes];
             0
         }
-        Picture::Refused(refusal) => {
+        Err(refusal) => {
             *count = [0];
             refusal.number()
         }
@@ -48,9 +47,5 @@ pub extern "C" fn sandline_write_pbm(
     ensures { record { answer = result; out = (out.new, count.new) }
         ≡ answer_for_c (written_of (chart_from width height) pixels.now out.old) }
 {
-    let chart = Chart {
-        width: width,
-        height: height,
-    };
-    hand(pbm::write_pbm(chart, pixels, out), count)
+    hand(pbm::write_pbm(Chart { width, height }, pixels, out), count)
 }

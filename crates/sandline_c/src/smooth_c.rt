@@ -4,7 +4,7 @@ ghost use Rattle.smooth.specs.Calls.{subdivided_of};
 ghost use Rattle.sandline_c.specs.Handed.{round_for_c};
 ghost use Rattle.sandline_c.specs.Read.{settings_from};
 
-use smooth::{Settings, Subdivided};
+use smooth::Settings;
 
 // One round; `finished` says whether each point that entered left both parts of its segment at most
 // `length` long.
@@ -24,17 +24,14 @@ pub extern "C" fn sandline_subdivide_keep_corners(
         ≡ round_for_c (subdivided_of points.now corners.now (settings_from ratio length) closed out.old flags.old)
         finished.old }
 {
-    let settings = Settings {
-        ratio: ratio,
-        length: length,
-    };
+    let settings = Settings { ratio, length };
     match smooth::subdivide_keep_corners(points, corners, settings, closed, out, flags) {
-        Subdivided::Done(points, done) => {
-            *count = [points];
-            *finished = [done];
+        Ok(round) => {
+            *count = [round.points];
+            *finished = [round.finished];
             0
         }
-        Subdivided::Refused(refusal) => {
+        Err(refusal) => {
             *count = [0];
             refusal.number()
         }

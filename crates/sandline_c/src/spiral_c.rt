@@ -2,42 +2,22 @@
 //
 // A spiral stands in the caller's own struct.
 ghost use Rattle.std.specs.Prelude.{◌≡◌};
-ghost use Rattle.spiral.specs.Answers.{fresh_number};
 ghost use Rattle.spiral.specs.Spiral.{fresh_spiral, advanced};
-ghost use Rattle.sandline_c.specs.Handed.{fresh_or, spiral_for_c, step_for_c, advance_for_c};
+ghost use Rattle.sandline_c.specs.Handed.{spiral_for_c, advance_for_c};
 
-use spiral::{Advanced, Fresh, SpiralWalker};
-
-// The number that is answered for a size, and what the caller's struct then holds.
-#[derive(Clone, Copy)]
-struct Begun {
-    number: u8,
-    spiral: SpiralWalker,
-}
+use spiral::SpiralWalker;
 
 // The spiral of a square of `size` by `size`, before its first step.
 #[unsafe(no_mangle)]
 pub extern "C" fn sandline_spiral(size: usize, fresh: &mut SpiralWalker) -> u8
     ensures { record { answer = result; out = fresh.new } ≡ spiral_for_c (fresh_spiral size) fresh.old }
 {
-    let begun = begin(size, *fresh);
-    *fresh = begun.spiral;
-    begun.number
-}
-
-// A fresh spiral or, refused, the `old` one.
-fn begin(size: usize, old: SpiralWalker) -> Begun
-    ensures { (result.number ≡ fresh_number (fresh_spiral size)) × (result.spiral ≡ fresh_or (fresh_spiral size) old) }
-{
     match spiral::spiral(size) {
-        Fresh::Ready(s) => Begun {
-            number: 0,
-            spiral: s,
-        },
-        Fresh::Refused(refusal) => Begun {
-            number: refusal.number(),
-            spiral: old,
-        },
+        Ok(s) => {
+            *fresh = s;
+            0
+        }
+        Err(refusal) => refusal.number(),
     }
 }
 
@@ -51,24 +31,17 @@ pub extern "C" fn sandline_spiral_advance(
     ensures { record { answer = result; out = (s.new, place.new, count.new) }
         ≡ advance_for_c (advanced s.old) place.old }
 {
-    put_step(spiral::spiral_advance(s), place, count)
-}
-
-// What a step answers, put where it was asked for.
-fn put_step(step: Advanced, place: &mut [i32; 2], count: &mut [usize; 1]) -> u8
-    ensures { record { answer = result; out = (place.new, count.new) } ≡ step_for_c step place.old }
-{
-    match step {
-        Advanced::At(p) => {
+    match spiral::spiral_advance(s) {
+        Ok(Some(p)) => {
             *place = [p.x, p.y];
             *count = [1];
             0
         }
-        Advanced::End => {
+        Ok(None) => {
             *count = [0];
             0
         }
-        Advanced::Refused(refusal) => {
+        Err(refusal) => {
             *count = [0];
             refusal.number()
         }

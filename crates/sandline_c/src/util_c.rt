@@ -8,8 +8,8 @@ ghost use Rattle.util.specs.Lengths.{middle_of, norm_of, norm_of_i32};
 ghost use Rattle.sandline_c.specs.Handed.{signed_area_for_c, mid_point_for_c, length_for_c};
 ghost use Rattle.sandline_c.specs.Read.{point_from, point_f64_from, point_f64_at};
 
-use point::{PointF64, PointI32};
-use util::{Measure, MidPoint, Signed};
+use point::{PointF64, PointI32, Refusal};
+use util::Vector;
 
 // The signed area of three points, x, y, x, y, x, y.
 #[unsafe(no_mangle)]
@@ -17,24 +17,15 @@ pub extern "C" fn sandline_signed_area(points: &[i32; 6], area: &mut [i32; 1]) -
     ensures { record { answer = result; out = area.new }
         ≡ signed_area_for_c (signed_area_of (point_at points.now 0) (point_at points.now 1) (point_at points.now 2)) area.old }
 {
-    let p1 = PointI32 {
-        x: points[0],
-        y: points[1],
-    };
-    let p2 = PointI32 {
-        x: points[2],
-        y: points[3],
-    };
-    let p3 = PointI32 {
-        x: points[4],
-        y: points[5],
-    };
-    match util::signed_area(p1, p2, p3) {
-        Signed::Area(a) => {
+    let [x1, y1, x2, y2, x3, y3] = *points;
+    let first = PointI32 { x: x1, y: y1 };
+    let second = PointI32 { x: x2, y: y2 };
+    match util::signed_area(first, second, PointI32 { x: x3, y: y3 }) {
+        Ok(a) => {
             *area = [a];
             0
         }
-        Signed::Refused(refusal) => refusal.number(),
+        Err(refusal) => refusal.number(),
     }
 }
 
@@ -44,20 +35,13 @@ pub extern "C" fn sandline_find_mid_point(points: &[f64; 4], middle: &mut [f64; 
     ensures { record { answer = result; out = middle.new }
         ≡ mid_point_for_c (middle_of (point_f64_at points.now 0) (point_f64_at points.now 1)) middle.old }
 {
-    let p1 = PointF64 {
-        x: points[0],
-        y: points[1],
-    };
-    let p2 = PointF64 {
-        x: points[2],
-        y: points[3],
-    };
-    match util::find_mid_point(p1, p2) {
-        MidPoint::At(p) => {
+    let [x1, y1, x2, y2] = *points;
+    match util::find_mid_point(PointF64 { x: x1, y: y1 }, PointF64 { x: x2, y: y2 }) {
+        Ok(p) => {
             *middle = [p.x, p.y];
             0
         }
-        MidPoint::Refused(refusal) => refusal.number(),
+        Err(refusal) => refusal.number(),
     }
 }
 
@@ -66,7 +50,7 @@ pub extern "C" fn sandline_find_mid_point(points: &[f64; 4], middle: &mut [f64; 
 pub extern "C" fn sandline_norm(x: f64, y: f64, length: &mut [f64; 1]) -> u8
     ensures { record { answer = result; out = length.new } ≡ length_for_c (norm_of (point_f64_from x y)) length.old }
 {
-    put_measure(util::norm(PointF64 { x: x, y: y }), length)
+    put_length(PointF64 { x, y }.norm(), length)
 }
 
 // The length of a vector of whole numbers.
@@ -74,18 +58,18 @@ pub extern "C" fn sandline_norm(x: f64, y: f64, length: &mut [f64; 1]) -> u8
 pub extern "C" fn sandline_norm_i32(x: i32, y: i32, length: &mut [f64; 1]) -> u8
     ensures { record { answer = result; out = length.new } ≡ length_for_c (norm_of_i32 (point_from x y)) length.old }
 {
-    put_measure(util::norm_i32(PointI32 { x: x, y: y }), length)
+    put_length(PointI32 { x, y }.norm(), length)
 }
 
 // A length, put where it was asked for.
-fn put_measure(measure: Measure, length: &mut [f64; 1]) -> u8
-    ensures { record { answer = result; out = length.new } ≡ length_for_c measure length.old }
+fn put_length(answer: Result<f64, Refusal>, length: &mut [f64; 1]) -> u8
+    ensures { record { answer = result; out = length.new } ≡ length_for_c answer length.old }
 {
-    match measure {
-        Measure::Is(l) => {
+    match answer {
+        Ok(l) => {
             *length = [l];
             0
         }
-        Measure::Refused(refusal) => refusal.number(),
+        Err(refusal) => refusal.number(),
     }
 }

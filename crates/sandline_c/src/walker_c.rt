@@ -1,9 +1,10 @@
 // Walks along the outline of what is set.
 ghost use Rattle.std.specs.Prelude.{◌≡◌};
 ghost use Rattle.walker.specs.Walk.{walked};
-ghost use Rattle.sandline_c.specs.Handed.{walk_for_c};
+ghost use Rattle.sandline_c.specs.Handed.{answer_for_c};
 ghost use Rattle.sandline_c.specs.Read.{chart_from, point_from};
 
+use crate::handing::hand;
 use chart::Chart;
 use point::PointI32;
 
@@ -20,13 +21,11 @@ pub extern "C" fn sandline_walk(
     count: &mut [usize; 1],
 ) -> u8
     ensures { record { answer = result; out = (out.new, count.new) }
-        ≡ walk_for_c (walked (chart_from width height) pixels.now (point_from x y) clockwise out.old) }
+        ≡ answer_for_c (walked (chart_from width height) pixels.now (point_from x y) clockwise out.old) }
 {
-    let chart = Chart {
-        width: width,
-        height: height,
-    };
-    let walked = walker::walk(chart, pixels, PointI32 { x: x, y: y }, clockwise, out);
-    *count = [walked.count()];
-    walked.number()
+    let start = PointI32 { x, y };
+    hand(
+        walker::walk(Chart { width, height }, pixels, start, clockwise, out),
+        count,
+    )
 }

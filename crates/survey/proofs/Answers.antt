@@ -11,10 +11,11 @@ use lib.Dec.{ltb}
 use lib.ListN.{length, take, drop, length-append, length-take, length-drop}
 use lib.Seq.{take_all, take_at, take-add, take-append-le, take-append-add, length-take-le}
 use borrow.Author.Tests.{lt-ltb, le-ltb, ltb-true, ltb-false}
-use Rattle.std.specs.Prelude.{if◌then◌else◌}
+use Rattle.std.specs.Prelude.{if◌then◌else◌, Result, Ok, Err}
 use Rattle.laws.specs.Lists.{over}
 use Rattle.laws.proofs.Lists.{take_over_all}
-use Rattle.pbm.specs.Read.{Reading as Outcome, read_of}
+use Rattle.point.specs.declared.refusal.Refusal.{Refusal}
+use Rattle.pbm.specs.Read.{Reading, read_of}
 use Rattle.pbm.specs.declared.Picture.{Picture}
 use Rattle.pbm.proofs.theorems.Behind.{nothing_more_matters}
 use Rattle.survey.specs.Survey.{text_of, chart_room, survey_text, is_read, whole, Step, step_of}
@@ -28,19 +29,19 @@ pub nothing_follows : (file more : List ℕ) → whole file ≡ true → survey_
 unfolding whole survey_text
 nothing_follows file more is = by (read_of file chart_room).answer refl is
   where
-    by : (p : Picture) → (read_of file chart_room).answer ≡ p → is_read p ≡ true →
+    by : (p : Result Picture Refusal) → (read_of file chart_room).answer ≡ p → is_read p ≡ true →
         text_of (read_of (file ++ more) chart_room).answer (read_of (file ++ more) chart_room).out ≡ text_of (read_of file chart_room).answer (read_of file chart_room).out
-    by (Picture.Read c n) e t = ap (λ (o : Outcome). text_of o.answer o.out) (nothing_more_matters file more chart_room c n e)
-    by (Picture.Refused r) e t = absurd (false≢true t)
+    by (Ok picture) e t = ap (λ (o : Reading). text_of o.answer o.out) (nothing_more_matters file more chart_room picture.chart picture.bytes e)
+    by (Err r) e t = absurd (false≢true t)
 
 -- nor whether it is whole
 still_whole : (file more : List ℕ) → whole file ≡ true → whole (file ++ more) ≡ true
 unfolding whole
 still_whole file more is = by (read_of file chart_room).answer refl is
   where
-    by : (p : Picture) → (read_of file chart_room).answer ≡ p → is_read p ≡ true → is_read (read_of (file ++ more) chart_room).answer ≡ true
-    by (Picture.Read c n) e t = ap (λ (o : Outcome). is_read o.answer) (nothing_more_matters file more chart_room c n e) ∙ ap is_read e
-    by (Picture.Refused r) e t = absurd (false≢true t)
+    by : (p : Result Picture Refusal) → (read_of file chart_room).answer ≡ p → is_read p ≡ true → is_read (read_of (file ++ more) chart_room).answer ≡ true
+    by (Ok picture) e t = ap (λ (o : Reading). is_read o.answer) (nothing_more_matters file more chart_room picture.chart picture.bytes e) ∙ ap is_read e
+    by (Err r) e t = absurd (false≢true t)
 
 -- ---- steps
 

@@ -1,15 +1,14 @@
 -- What the program answers to a file: three lines of a picture, and one of what is no picture. A line has the form of document 01's "Frames".
-use Rattle.std.specs.Prelude.{ℕ, ◌*◌, Bool, true, false, not, ◌&&◌, List, [], ◌++◌, ltb, ℤ, length, take, replicate, if◌then◌else◌}
+use Rattle.std.specs.Prelude.{ℕ, ◌*◌, Bool, true, false, not, ◌&&◌, List, [], ◌++◌, ltb, ℤ, length, take, replicate, if◌then◌else◌, Result, Ok, Err}
 use Rattle.laws.specs.Lists.{over}
 use Rattle.laws.specs.Outcome.{Outcome}
 use Rattle.point.specs.Refusals.{refusal_number, count_of}
 use Rattle.chart.specs.Start.{first_start}
 use Rattle.chart.specs.declared.Chart.{Chart}
-use Rattle.chart.specs.declared.Start.{Start}
-use Rattle.walker.specs.Answers.{walked_count}
 use Rattle.walker.specs.Walk as Walk
-use Rattle.walker.specs.declared.Walked.TheVariants as Walked
 use Rattle.point.specs.Outcomes.{Points}
+use Rattle.point.specs.declared.PointI32.{PointI32}
+use Rattle.point.specs.declared.refusal.Refusal.{Refusal}
 use Rattle.simplify.specs.Simplify as Simplify
 use Rattle.reduce.specs.Numbers.{numbered_of}
 use Rattle.frames.specs.Replies.{points_text}
@@ -23,19 +22,15 @@ use Rattle.survey.specs.declared.step.Turn.TheVariants.{Read, Write}
 
 -- ---- the three lines of a chart: kinds 01, 02 and 04 of "Frames", each of what the line before it hands on
 
--- The outline from a start, clockwise. A blank chart has no start, and so no way: 8 is for "first start of a blank chart" too.
-abbrev pub outline_from : Start → Chart → List ℕ → List ℤ → Walk.Outlined
-outline_from (Start.At p) c pixels out = Walk.walked c pixels p true out
-outline_from Start.NoWay c pixels out = record { answer = Walked.NoWay; out = out }
-outline_from (Start.Refused r) c pixels out = record { answer = Walked.Refused r; out = out }
+-- The outline from a start, clockwise, or why there is no start: 8 is for "first start of a blank chart" too.
+abbrev pub outline_from : Result PointI32 Refusal → Chart → List ℕ → List ℤ → Points
+outline_from (Ok p) c pixels out = Walk.walked c pixels p true out
+outline_from (Err r) c pixels out = record { answer = Err r; out = out }
 
-abbrev pub outline_of : Chart → List ℕ → List ℤ → Walk.Outlined
+abbrev pub outline_of : Chart → List ℕ → List ℤ → Points
 outline_of c pixels out = outline_from (first_start c pixels) c pixels out
 
 -- the points that a call hands on: "a refusal has count 0"
-abbrev pub outlined : Walk.Outlined → List ℤ
-outlined o = take (walked_count o.answer * 2) o.out
-
 abbrev pub kept : Points → List ℤ
 kept o = take (count_of o.answer * 2) o.out
 
@@ -47,7 +42,7 @@ two_lines points =
 
 unfoldable pub three_lines : Chart → List ℕ → List ℕ
 unfolding two_lines
-three_lines c pixels = let outline = outline_of c pixels room in line (walk_reply outline) ++ two_lines (outlined outline)
+three_lines c pixels = let outline = outline_of c pixels room in line (walk_reply outline) ++ two_lines (kept outline)
 
 -- ---- the answer to a file
 
@@ -55,9 +50,9 @@ three_lines c pixels = let outline = outline_of c pixels room in line (walk_repl
 abbrev pub refused_line : ℕ → List ℕ
 refused_line number = line (points_text 0 number [])
 
-abbrev pub text_of : Picture → List ℕ → List ℕ
-text_of (Picture.Read c bytes) pixels = three_lines c pixels
-text_of (Picture.Refused r) pixels = refused_line (refusal_number r)
+abbrev pub text_of : Result Picture Refusal → List ℕ → List ℕ
+text_of (Ok picture) pixels = three_lines picture.chart pixels
+text_of (Err r) pixels = refused_line (refusal_number r)
 
 -- room for the largest chart: 512 rows of 64 bytes
 abbrev pub chart_room : List ℕ
@@ -69,9 +64,9 @@ survey_text file = let picture = Pbm.read_of file chart_room in text_of picture.
 
 -- ---- what is to be done with the part of a file that came
 
-abbrev pub is_read : Picture → Bool
-is_read (Picture.Read c bytes) = true
-is_read (Picture.Refused r) = false
+abbrev pub is_read : Result Picture Refusal → Bool
+is_read (Ok picture) = true
+is_read (Err r) = false
 
 -- an image is whole in it
 unfoldable pub whole : List ℕ → Bool

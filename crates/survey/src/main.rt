@@ -7,9 +7,8 @@
 mod answer;
 mod step;
 
-ghost use Rattle.std.specs.Prelude.{◌+◌, ◌≤◌, length, ◌≡◌};
+ghost use Rattle.std.specs.Prelude.{◌+◌, ◌≤◌, length, ◌≡◌, Some};
 ghost use Rattle.survey.specs.Survey.{may_come};
-ghost use Rattle.survey.specs.declared.Got.TheVariants.{Held};
 ghost use Rattle.survey.specs.inside.Reading.{Nearer};
 
 use std::io::{Read, Write};
@@ -38,15 +37,11 @@ fn survey(rt: &HostRuntime, input: &mut [u8], output: &mut [u8])
     loop {
         match step(&input[0..held], more, output) {
             Turn::Read => {
-                let Got::Held {
-                    bytes,
-                    more: may_come,
-                } = read(rt, input, held)
-                else {
+                let Some(got) = read(rt, input, held) else {
                     return;
                 };
-                held = bytes;
-                more = may_come;
+                held = got.held;
+                more = got.more;
             }
             Turn::Write(bytes) => {
                 write(rt, &output[0..bytes]);
@@ -56,24 +51,24 @@ fn survey(rt: &HostRuntime, input: &mut [u8], output: &mut [u8])
     }
 }
 
-// How many bytes of the input are held, and whether more may come; or that it cannot be read.
+// How many bytes of the input are held, and whether more may come.
 #[derive(Clone, Copy)]
-pub enum Got {
-    Held { bytes: usize, more: bool },
-    Failed,
+pub struct Got {
+    pub held: usize,
+    pub more: bool,
 }
 
-// Reads on behind the bytes that are held.
-fn read(rt: &HostRuntime, input: &mut [u8], held: usize) -> Got
+// Reads on behind the bytes that are held. Where the input cannot be read, that is told.
+fn read(rt: &HostRuntime, input: &mut [u8], held: usize) -> Option<Got>
     requires { held ≤ length input.old }
     ensures { Nearer result held (length input.old) }
 {
     let size = input.len();
     match rt.stdin().read(&mut input[held..]) {
-        Ok(n) => fed(held, n, size),
+        Ok(n) => Some(fed(held, n, size)),
         Err(_) => {
             tell(rt, b"survey: the input cannot be read\n");
-            Got::Failed
+            None
         }
     }
 }
@@ -82,10 +77,11 @@ fn read(rt: &HostRuntime, input: &mut [u8], held: usize) -> Got
 // ended. More may come until it has, or its buffer is full.
 fn fed(held: usize, n: usize, size: usize) -> Got
     requires { held + n ≤ size }
-    ensures { (result ≡ Held (held + n) (may_come n (held + n) size)) × Nearer result held size }
+    ensures { (result ≡ record { held = held + n; more = may_come n (held + n) size })
+        × Nearer (Some result) held size }
 {
-    Got::Held {
-        bytes: held + n,
+    Got {
+        held: held + n,
         more: (0 < n) & (held + n < size),
     }
 }

@@ -3,8 +3,8 @@ ghost use Rattle.std.specs.Prelude.{◌≤◌, ◌≡◌, length};
 ghost use Rattle.survey.specs.Survey.{step_of};
 
 use crate::answer::{put_lines, put_refusal};
-use pbm::Picture;
 
+// An enum of its own, though it has the shape of an Option: its names say what the program does next.
 #[derive(Clone, Copy)]
 pub enum Turn {
     // More of the input is read.
@@ -21,8 +21,8 @@ pub fn step(file: &[u8], more: bool, output: &mut [u8]) -> Turn
 {
     let mut pixels = [0u8; 32768];
     match pbm::read_pbm(file, &mut pixels) {
-        Picture::Read { chart, bytes: _ } => Turn::Write(put_lines(chart, &pixels, output)),
-        Picture::Refused(refusal) => {
+        Ok(picture) => Turn::Write(put_lines(picture.chart, &pixels, output)),
+        Err(refusal) => {
             if more {
                 return Turn::Read;
             }

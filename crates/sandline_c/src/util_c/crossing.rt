@@ -22,26 +22,19 @@ pub extern "C" fn sandline_find_intersection(
         ≡ crossing_for_c (intersection_of (point_f64_at first.now 0) (point_f64_at first.now 1)
         (point_f64_at second.now 0) (point_f64_at second.now 1)) values.old }
 {
-    let p1 = PointF64 {
-        x: first[0],
-        y: first[1],
-    };
-    let p2 = PointF64 {
-        x: first[2],
-        y: first[3],
-    };
-    let p3 = PointF64 {
-        x: second[0],
-        y: second[1],
-    };
-    let p4 = PointF64 {
-        x: second[2],
-        y: second[3],
-    };
-    put_crossing(util::find_intersection(p1, p2, p3, p4), values, count)
+    let [x1, y1, x2, y2] = *first;
+    let [x3, y3, x4, y4] = *second;
+    let found = util::find_intersection(
+        PointF64 { x: x1, y: y1 },
+        PointF64 { x: x2, y: y2 },
+        PointF64 { x: x3, y: y3 },
+        PointF64 { x: x4, y: y4 },
+    );
+    put_crossing(found, values, count)
 }
 
 // A crossing, its values put at the start of an array and counted.
+#[tactic(auto, using(crate::proofs::Handed::set_two, crate::proofs::Handed::set_four), unfolding(crate::specs::Handed::crossing_for_c))]
 fn put_crossing(found: Intersection, values: &mut [f64], count: &mut [usize; 1]) -> u8
     requires { 4 ≤ length values.old }
     ensures { record { answer = result; out = (values.new, count.new) } ≡ crossing_for_c found values.old }
@@ -102,21 +95,13 @@ pub extern "C" fn sandline_coincide(values: &[f64]) -> bool
 }
 
 // The crossing that values stand for.
+#[tactic(auto, unfolding(crate::specs::Read::crossing_from))]
 fn read_crossing(values: &[f64]) -> Intersection
     ensures { result ≡ crossing_from values.now }
 {
-    if values.len() == 4 {
-        let p = PointF64 {
-            x: values[0],
-            y: values[1],
-        };
-        return Intersection::Cross(p, values[2], values[3]);
+    match *values {
+        [x, y, mua, mub] => Intersection::Cross(PointF64 { x, y }, mua, mub),
+        [x, y] => Intersection::Coincide(PointF64 { x, y }),
+        _ => Intersection::Parallel,
     }
-    if values.len() == 2 {
-        return Intersection::Coincide(PointF64 {
-            x: values[0],
-            y: values[1],
-        });
-    }
-    Intersection::Parallel
 }

@@ -1,11 +1,11 @@
 -- `survey` lends on what the step asks for, and each read brings bytes or is the last. Assumes nothing.
 use Rattle.std.proofs.Common.{rules, arith, ◌≡◌, ℕ, ◌+◌, ◌-◌, ◌≤◌, ◌<◌, Bool, true, false, not, ◌&&◌, List, length, refl, sym, ap, subst, ◌∙◌}
+use Rattle.std.specs.Prelude.{Option, Some}
 use Rattle.laws.proofs.If.{if_cases}
 use Rattle.chart.specs.Pixels.{one}
 use Rattle.survey.specs.Survey.{whole, Step, step_of}
 use Rattle.survey.specs.inside.Reading.{Nearer}
 use Rattle.survey.specs.declared.Got.{Got}
-use Rattle.survey.specs.declared.Got.TheVariants.{Held}
 use Rattle.survey.specs.declared.step.Turn.{Turn}
 use Rattle.survey.specs.declared.step.Turn.TheVariants.{Read, Write}
 use Rattle.survey.proofs.Lines.{survey_short}
@@ -35,14 +35,14 @@ module _ (file : List ℕ) (more : Bool) (output last : List ℕ) (t : Turn) (e 
   write_fits first bytes k h same kept = omega (arith, of_turn (Write bytes) k)
 
 -- a read that brought something, or was the last
-module _ (g : Got) (n held : ℕ) (more' : Bool) (first input : List ℕ) (h : Nearer g held (length input)) (e : g ≡ Held n more') (same : length input ≡ length first) where
-  nearer : Nearer (Held n more') held (length input)
-  nearer = subst (λ (k : Got). Nearer k held (length input)) e h
+module _ (o : Option Got) (g : Got) (held : ℕ) (first input : List ℕ) (h : Nearer o held (length input)) (e : o ≡ Some g) (same : length input ≡ length first) where
+  nearer : Nearer (Some g) held (length input)
+  nearer = subst (λ (k : Option Got). Nearer k held (length input)) e h
 
-  held_fits : n ≤ length first
+  held_fits : g.held ≤ length first
   held_fits = omega (arith, nearer.0)
 
-  less : (more : Bool) → more ≡ true → length first - n + one more' < length first - held + one more
+  less : (more : Bool) → more ≡ true → length first - g.held + one g.more < length first - held + one more
   less more m = rw (m, ← same) nearer.1
 
 pub loop-input-smaller : goal.loop-input-smaller

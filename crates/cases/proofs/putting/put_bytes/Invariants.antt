@@ -1,6 +1,0 @@
--- `put_bytes` ends: the measure is how many bytes are left.
-use Rattle.std.proofs.Common.{◌-◌, length}
-use Rattle.cases.proofs.putting.put_bytes.Given as goal
-
-abbrev pub decreases-loop-i : goal.decreases-loop-i
-decreases-loop-i l = length l.values - l.i

@@ -1,6 +1,0 @@
--- `put_integers` ends: the measure is how many values are left.
-use Rattle.std.proofs.Common.{◌-◌, length}
-use Rattle.cases.proofs.putting.put_integers.Given as goal
-
-abbrev pub decreases-loop-i : goal.decreases-loop-i
-decreases-loop-i l = length l.values - l.i
