@@ -151,7 +151,7 @@ uint8_t sandline_first_start(uint64_t width, uint64_t height, const uint8_t *pix
 // Room: 2 elements for each point of the outline.
 // Refuses: a bad chart (1), x or y beyond 16,383 (3), a start whose four pixels are alike (8), over 1,000,000 steps
 // after some run (9), no room (10).
-// Stack of sandline_walk: 336 bytes.
+// Stack of sandline_walk: 344 bytes.
 uint8_t sandline_walk(uint64_t width, uint64_t height, const uint8_t *pixels, uint64_t bytes, int32_t x, int32_t y,
                       bool clockwise, int32_t *out, uint64_t room, uint64_t *count);
 
@@ -178,7 +178,7 @@ uint8_t sandline_spiral(uint64_t size, sandline_spiral_walker *spiral);
 // One step: the place that the spiral stood on, x and y, and a count of 1; or a count of 0 where it has ended, and
 // then place and spiral hold what they held. (Odd sizes from 3 leave the square, as in the Rust.)
 // Refuses a field out of range: SANDLINE_BAD_SIZE, and a count of 0 too.
-// Stack of sandline_spiral_advance: 56 bytes.
+// Stack of sandline_spiral_advance: 48 bytes.
 uint8_t sandline_spiral_advance(sandline_spiral_walker *spiral, int32_t place[2], uint64_t *count);
 
 // ---- Pictures: charts out of Netpbm's PBM files, and into them.
@@ -271,7 +271,7 @@ uint8_t sandline_remove_staircase(const int32_t *points, uint64_t length, bool c
 uint8_t sandline_limit_penalties(const int32_t *points, uint64_t length, int32_t *out, uint64_t room, uint64_t *count);
 
 // Both, one after the other: what to do with a walked outline.
-// Stack of sandline_simplify: 33,080 bytes, most of them for the list between the two.
+// Stack of sandline_simplify: 33,112 bytes, most of them for the list between the two.
 uint8_t sandline_simplify(const int32_t *points, uint64_t length, bool clockwise, int32_t *out, uint64_t room,
                           uint64_t *count);
 
@@ -302,7 +302,7 @@ uint8_t sandline_find_corners(const int32_t *points, uint64_t length, int32_t c,
 // Room: 2n - 1 points, that is 4n - 2 doubles, and 2n - 1 flags; none where n is 0.
 // Refuses too many points (2), a bad list (3), a closed list of fewer than 2 points (4), bad flags (6), bad settings
 // (7), no room (10); then finished holds what it held.
-// Stack of sandline_subdivide_keep_corners: 360 bytes.
+// Stack of sandline_subdivide_keep_corners: 296 bytes.
 uint8_t sandline_subdivide_keep_corners(const double *points, uint64_t points_length, const uint8_t *corners,
                                         uint64_t corners_length, double ratio, double length, bool closed,
                                         double *out, uint64_t room, uint8_t *flags, uint64_t flag_room, uint64_t *count,
@@ -331,12 +331,12 @@ uint8_t sandline_simplify_radial_dist(const int32_t *points, uint64_t length, do
 // Douglas-Peucker at a SQUARED tolerance, 0 to 4,294,967,296. Both ends stay; one point is answered twice.
 // After it marks starts with n bytes, 1 for each point kept and 0 for each dropped.
 // Room: n marks too. Refuses a list of no points (4) too.
-// Stack of sandline_simplify_douglas_peucker: 360 bytes.
+// Stack of sandline_simplify_douglas_peucker: 392 bytes.
 uint8_t sandline_simplify_douglas_peucker(const int32_t *points, uint64_t length, double tolerance, int32_t *out,
                                           uint64_t room, uint8_t *marks, uint64_t mark_room, uint64_t *count);
 
 // The same, and in distances how many were computed: 0 where it is refused.
-// Stack of sandline_simplify_douglas_peucker_counted: 360 bytes.
+// Stack of sandline_simplify_douglas_peucker_counted: 392 bytes.
 uint8_t sandline_simplify_douglas_peucker_counted(const int32_t *points, uint64_t length, double tolerance,
                                                   int32_t *out, uint64_t room, uint8_t *marks, uint64_t mark_room,
                                                   uint64_t *count, uint64_t *distances);
@@ -365,7 +365,7 @@ uint8_t sandline_numbers_counted(const int32_t *points, uint64_t length, double 
 // that tolerance, at the cost of one comparison for each point. The numbers are those of the same list; numbers_length
 // other than n is a bad list (3).
 // Refuses a list of no points (4) too.
-// Stack of sandline_zoom: 72 bytes.
+// Stack of sandline_zoom: 56 bytes.
 uint8_t sandline_zoom(const int32_t *points, uint64_t length, const double *numbers, uint64_t numbers_length,
                       double tolerance, int32_t *out, uint64_t room, uint64_t *count);
 
@@ -388,7 +388,7 @@ uint64_t sandline_sqrt_bits(uint64_t bits);
 // It is written from out[at] on, also with no end of line, and the place behind it is returned; where it does not fit
 // nothing is written, and at itself is returned. An answer has 8 digits at least, and 32,768 at most.
 // Whatever the line holds is answered; what is no frame by ff0b0000. Out and at are in digits.
-// Stack of sandline_answer: 119,272 bytes.
+// Stack of sandline_answer: 119,304 bytes.
 uint64_t sandline_answer(const uint8_t *line, uint64_t length, uint8_t *out, uint64_t room, uint64_t at);
 
 #ifdef __cplusplus
