@@ -1,6 +1,6 @@
 -- specs/ is all that you have to believe. Read Areas first: twice the area of a list, and the gaps that a choice of its points leaves. Calls has what
--- the calls refuse and answer, Totals the areas of two lists together, Answers the values of the answers, and Examples worked ones. What
--- stands in inside/ nobody need believe.
+-- the calls refuse and answer, Totals the areas of two lists together, and Answers the values of the answers. What stands in inside/ nobody
+-- need believe.
 pub mod Areas
 pub mod Calls
 pub mod Totals
