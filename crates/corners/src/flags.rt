@@ -28,7 +28,8 @@ pub fn find_corners(
     if n == 0 {
         return Err(Refusal::TooFew);
     }
-    if !fair(pair) {
+    let fine = fair(pair);
+    if !fine {
         return Err(Refusal::BadSettings);
     }
     let m = point::seen(n, closed);

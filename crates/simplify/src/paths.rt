@@ -16,5 +16,6 @@ pub fn simplify(points: &[i32], clockwise: bool, out: &mut [i32]) -> Result<usiz
     judge(points, out.len())?;
     let mut between = [0; 8192];
     let kept = remove_staircase(points, clockwise, &mut between)?;
-    limit_penalties(&between[..kept * 2], out)
+    let left = &between[..kept * 2];
+    limit_penalties(left, out)
 }

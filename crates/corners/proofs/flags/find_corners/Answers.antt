@@ -45,12 +45,12 @@ module _ (list : List ℤ) (pair : Pair) (closed : Bool) (flags : List ℕ) (v :
     unfolding find_corners_of
     too_few z = rw (first.0, good, eq-eqb (length list / 2) 0 z)
 
-    module _ (some_points : length list / 2 ≡ 0 → ⊥) (ok : Bool) (so : ok ≡ fair pair) where
-      bad_settings_lem : ok ≡ false → record { answer = Err BadSettings; out = flags } ≡ find_corners_of list pair closed flags
+    module _ (some_points : length list / 2 ≡ 0 → ⊥) (ok : Bool) where
+      bad_settings_lem : ok ≡ false → ok ≡ fair pair → record { answer = Err BadSettings; out = flags } ≡ find_corners_of list pair closed flags
       unfolding find_corners_of
-      bad_settings_lem g = rw (first.0, good, ne_eqb (length list / 2) 0 some_points, ← so, g)
+      bad_settings_lem g so = rw (first.0, good, ne_eqb (length list / 2) 0 some_points, ← so, g)
 
-      module _ (g : ok ≡ true) (m : ℕ) (em : m ≡ seen (length list / 2) closed) where
+      module _ (g : ok ≡ true) (so : ok ≡ fair pair) (m : ℕ) (em : m ≡ seen (length list / 2) closed) where
         no_room : length flags < m → record { answer = Err NoRoom; out = flags } ≡ find_corners_of list pair closed flags
         unfolding find_corners_of
         no_room h = rw (first.0, good, ne_eqb (length list / 2) 0 some_points, ← so, g, ← em, lt-ltb (length flags) m h)
@@ -68,13 +68,13 @@ returns-in_err-judge_points c =
 pub returns-then-n-eq0 : goal.returns-then-n-eq0
 returns-then-n-eq0 c = too_few _ _ _ _ _ c.judge_points.ensures c.in_ok-judge_points.was c.if-n-eq0.true
 
-pub returns-then-not-fair : goal.returns-then-not-fair
-returns-then-not-fair c = bad_settings_lem _ _ _ _ _ c.judge_points.ensures c.in_ok-judge_points.was c.if-n-eq0.false _ c.fair.ensures c.if-not-fair.true
+pub returns-then-not-fine : goal.returns-then-not-fine
+returns-then-not-fine c = bad_settings_lem _ _ _ _ _ c.judge_points.ensures c.in_ok-judge_points.was c.if-n-eq0.false _ c.if-not-fine.true (search rules)
 
 pub returns-then-flags-m : goal.returns-then-flags-m
 returns-then-flags-m c =
-    no_room _ _ _ _ _ c.judge_points.ensures c.in_ok-judge_points.was c.if-n-eq0.false _ c.fair.ensures c.if-not-fair.false _ c.seen-m.ensures c.if-flags-m.true
+    no_room _ _ _ _ _ c.judge_points.ensures c.in_ok-judge_points.was c.if-n-eq0.false _ c.if-not-fine.false (search rules) _ c.seen-m.ensures c.if-flags-m.true
 
 pub returns : goal.returns
 returns c =
-    done _ _ _ _ _ c.judge_points.ensures c.in_ok-judge_points.was c.if-n-eq0.false _ c.fair.ensures c.if-not-fair.false _ c.seen-m.ensures c.if-flags-m.false _ c.write.ensures
+    done _ _ _ _ _ c.judge_points.ensures c.in_ok-judge_points.was c.if-n-eq0.false _ c.if-not-fine.false (search rules) _ c.seen-m.ensures c.if-flags-m.false _ c.write.ensures

@@ -67,12 +67,12 @@ pub slice_bounds-between-end : goal.slice_bounds-between-end
 slice_bounds-between-end c =
     within _ _ _ _ c.judge.ensures c.in_ok-judge.was _ _ _ c.remove_staircase.ensures _ c.in_ok-kept.was (search rules)
 
-pub slice_bounds-limit_penalties-end : goal.slice_bounds-limit_penalties-end
-slice_bounds-limit_penalties-end c =
+pub slice_bounds-left-end : goal.slice_bounds-left-end
+slice_bounds-left-end c =
     let h : c.in_ok-kept.kept * 2 ≤ length c.remove_staircase.new.out =
     within _ _ _ _ c.judge.ensures c.in_ok-judge.was _ _ _ c.remove_staircase.ensures _ c.in_ok-kept.was (search rules) in
     search rules
 
 pub returns : goal.returns
 returns c =
-    done _ _ _ _ c.judge.ensures c.in_ok-judge.was _ _ _ c.remove_staircase.ensures _ c.in_ok-kept.was (search rules) _ _ c.limit_penalties.ensures
+    done _ _ _ _ c.judge.ensures c.in_ok-judge.was _ _ _ c.remove_staircase.ensures _ c.in_ok-kept.was (search rules) _ _ (search rules)
