@@ -5,7 +5,9 @@ ghost use Rattle.std.specs.Prelude.{◌+◌, ◌≤◌, length};
 use crate::reading::Value;
 
 // Values, a comma between each two.
-pub fn values_at<'a, T: Value>(line: &[u8], k: usize, to: &'a mut [T]) -> &'a [T] {
+pub fn values_at<'a, T: Value>(line: &[u8], k: usize, to: &'a mut [T]) -> &'a [T]
+    ensures { length result.now ≤ length to.old }
+{
     let text = words::word(line, k);
     let mut n = 0;
     let mut at = 0;
@@ -34,7 +36,9 @@ pub fn value_at<'a>(text: &'a [u8], at: usize) -> &'a [u8]
 }
 
 // Bytes, each as two hexadecimal digits.
-pub fn bytes_at<'a>(line: &[u8], k: usize, to: &'a mut [u8]) -> &'a [u8] {
+pub fn bytes_at<'a>(line: &[u8], k: usize, to: &'a mut [u8]) -> &'a [u8]
+    ensures { length result.now ≤ length to.old }
+{
     let n = words::read_pairs(words::word(line, k), to).unwrap_or(0);
     &to[..n]
 }

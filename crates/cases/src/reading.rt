@@ -1,6 +1,6 @@
 // What the words of a case say; the call is at place 0. The form of the case is judged before (`forms`): a word of
 // another kind is read as 0.
-ghost use Rattle.std.specs.Prelude.{◌≤◌};
+ghost use Rattle.std.specs.Prelude.{◌≤◌, length};
 
 use crate::limits::ROOM;
 use chart::Chart;
@@ -132,7 +132,9 @@ pub fn two_at<T: OfTwo>(line: &[u8], k: usize) -> T
 }
 
 // As many of the places as the word at place `k` says, no more than can be lent.
-pub fn room_at<'a, T>(line: &[u8], k: usize, places: &'a mut [T]) -> &'a mut [T] {
+pub fn room_at<'a, T>(line: &[u8], k: usize, places: &'a mut [T]) -> &'a mut [T]
+    ensures { (length result.now ≤ 65536) × (length result.now ≤ length places.old) }
+{
     let room = at::<usize>(line, k).min(ROOM).min(places.len());
     &mut places[..room]
 }
