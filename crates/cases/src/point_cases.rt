@@ -10,8 +10,8 @@ use point::{Ranged, Refusal};
 // Puts the answer to a case of the limits.
 pub fn answer(line: &[u8], out: &mut Answer) {
     match call(line) {
-        b"points" if is_case(line, b"I") => points(line, [0i32; VALUES], out),
-        b"points_f64" if is_case(line, b"D") => points(line, [0.0f64; VALUES], out),
+        b"points" if is_case(line, b"I") => points(line, &mut [0i32; VALUES], out),
+        b"points_f64" if is_case(line, b"D") => points(line, &mut [0.0f64; VALUES], out),
         b"tolerance" if is_case(line, b"d") => out.number(toleranced(point::bad_tolerance(at(
             line, 1,
         )))),
@@ -22,8 +22,9 @@ pub fn answer(line: &[u8], out: &mut Answer) {
     }
 }
 
-fn points<T: Value + Ranged>(line: &[u8], mut list: [T; VALUES], out: &mut Answer) {
-    out.number(point::judge_points(values_at(line, 1, &mut list)));
+// The list is lent: by value each line would copy it.
+fn points<T: Value + Ranged>(line: &[u8], list: &mut [T], out: &mut Answer) {
+    out.number(point::judge_points(values_at(line, 1, list)));
 }
 
 fn toleranced(bad: bool) -> Result<(), Refusal> {
