@@ -201,7 +201,7 @@ uint8_t sandline_spiral_advance(sandline_spiral_walker *spiral, int32_t place[2]
 // Refuses: a size out of range (1), as soon as both sizes are read; no room (10), and that last; what is no picture,
 // a byte of a plain raster that is not 0, 1 or white space, missing pixels (12). Refused, width and height hold what
 // they held.
-// Stack of sandline_read_pbm: 56 bytes.
+// Stack of sandline_read_pbm: 152 bytes.
 uint8_t sandline_read_pbm(const uint8_t *file, uint64_t length, uint8_t *pixels, uint64_t room, uint64_t *width,
                           uint64_t *height, uint64_t *count);
 
@@ -210,7 +210,7 @@ uint8_t sandline_read_pbm(const uint8_t *file, uint64_t length, uint8_t *pixels,
 //
 // Room: as many bytes, 7 to 11 for the header and (width + 7) / 8 * height for the rows; 32,779 hold every chart.
 // Refuses: a bad chart (1), no room (10).
-// Stack of sandline_write_pbm: 56 bytes.
+// Stack of sandline_write_pbm: 152 bytes.
 uint8_t sandline_write_pbm(uint64_t width, uint64_t height, const uint8_t *pixels, uint64_t bytes, uint8_t *out,
                            uint64_t room, uint64_t *count);
 

@@ -15,7 +15,8 @@ pub(crate) fn all_bytes(chart: Chart) -> usize
 }
 
 // Copies a chart's rows from the start of `pixels` over a part that is as long as they are: all bytes as they are,
-// and then the padding is cleared.
+// and then the padding is cleared. (A call of its own, so that the loop over bytes keeps its places in registers.)
+#[inline(never)]
 pub(crate) fn copy_rows(chart: Chart, pixels: &[u8], part: &mut [u8])
     requires { (bad_sides chart ≡ false) × (all_bytes chart ≤ length pixels.now)
         × (length part.old ≡ all_bytes chart) }

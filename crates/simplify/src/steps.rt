@@ -6,12 +6,16 @@ ghost use Rattle.simplify.specs.Staircase.{segment_length, outwards, stays};
 
 use point::PointI32;
 
-// Whether a point stays: beside a step of one pixel where the outline turns outwards, and else in any case.
+// Whether a point stays: beside a step of one pixel where the outline turns outwards, and else in any case. The two
+// steps have a branch each: a processor foretells these better than one for both.
 pub(crate) fn stays(before: PointI32, p: PointI32, after: PointI32, clockwise: bool) -> bool
     requires { Near before × Near p × Near after }
     ensures { result ≡ stays clockwise before p after }
 {
-    if segment_length(p, before) == 1 || segment_length(p, after) == 1 {
+    if segment_length(p, before) == 1 {
+        return outwards(before, p, after, clockwise);
+    }
+    if segment_length(p, after) == 1 {
         return outwards(before, p, after, clockwise);
     }
     true

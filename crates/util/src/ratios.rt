@@ -48,9 +48,10 @@ impl Intersection {
         ensures { result ≡ inside_of self }
     {
         match self {
+            Intersection::Parallel => false,
             Intersection::Coincide(_) => true,
             Intersection::Cross(_, mua, mub) => !either_off(mua, mub),
-            Intersection::Parallel | Intersection::Refused(_) => false,
+            Intersection::Refused(_) => false,
         }
     }
 
@@ -60,9 +61,10 @@ impl Intersection {
         ensures { result ≡ coincide_of self }
     {
         match self {
+            Intersection::Parallel => false,
             Intersection::Coincide(_) => true,
-            Intersection::Cross(_, mua, mub) => mua.is_nan() && mub.is_nan(),
-            Intersection::Parallel | Intersection::Refused(_) => false,
+            Intersection::Cross(_, mua, mub) => mua.is_nan() & mub.is_nan(),
+            Intersection::Refused(_) => false,
         }
     }
 }
